@@ -1,0 +1,24 @@
+-- `exports::wick_line_all` meets its contract: what the line search answers, as eight words, and what it leaves.
+-- Assumes nothing.
+use mathlib.Core.Path.{ap, _∙_}
+use borrow.Author.Needs.{needs}
+use Rattle.exports.specs.Answers.{eight}
+use Rattle.exports.proofs.wick_line_all.Statement.{statement}
+use Rattle.exports.proofs.wick_line_all.Tie as tie
+
+line-all-requires : tie.Need-line-all-requires
+line-all-requires c κs = search needs
+
+of-listed-requires : tie.Need-of-listed-requires
+of-listed-requires c κs = search needs
+
+same-length : tie.Need-same-length
+same-length c = search needs
+
+returns : tie.Need-returns
+returns c =
+    let said = c .before .before .before .line-all .ensures in
+    record { answers = c .of-listed .ensures ∙ ap eight (said .answers); leaves = said .leaves }
+
+pub wick-line-all-spec : {M : Type 1} → statement M
+wick-line-all-spec = tie.close (tie.spec line-all-requires of-listed-requires same-length returns)

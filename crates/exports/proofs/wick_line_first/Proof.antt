@@ -1,0 +1,18 @@
+-- `exports::wick_line_first` meets its contract: what the line search answers, as eight words. Assumes nothing.
+use mathlib.Core.Path.{ap, _∙_}
+use borrow.Author.Needs.{needs}
+use Rattle.exports.specs.Answers.{eight}
+use Rattle.exports.proofs.wick_line_first.Statement.{statement}
+use Rattle.exports.proofs.wick_line_first.Tie as tie
+
+line-first-requires : tie.Need-line-first-requires
+line-first-requires c κs = search needs
+
+of-first-requires : tie.Need-of-first-requires
+of-first-requires c κs = search needs
+
+returns : tie.Need-returns
+returns c = record { answers = c .of-first .ensures ∙ ap eight (c .before .line-first .ensures .answers) }
+
+pub wick-line-first-spec : {M : Type 1} → statement M
+wick-line-first-spec = tie.close (tie.spec line-first-requires of-first-requires returns)

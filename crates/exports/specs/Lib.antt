@@ -1,0 +1,2 @@
+-- The answers of the C functions.
+pub mod Answers

@@ -1,0 +1,11 @@
+-- The laws, by subject.
+pub mod Bools
+pub mod Cases
+pub mod Below
+pub mod Steps
+pub mod Tables
+pub mod Members
+pub mod Rising
+pub mod Counting
+pub mod Filling
+pub mod Seeking

@@ -1,0 +1,35 @@
+-- Lists of numbers. Definitions only.
+--   run i m        the m numbers from i on: i, i + 1, ..
+--   tab n g        the n numbers g 0, g 1, ..
+--   keep p l       the numbers of l of which p holds, in l's order, each as often as it stands there
+--   has l y        y stands in l
+--   rises a l      l rises strictly, and its first number is at least a; true of the empty list
+--   written new found    lent words that held found, once new was written from their front on: the rest is as found
+use Prim.Native.Nat.{ℕ, zero, suc, _+_}
+use mathlib.Core.Bool.{Bool, true, false, cond, _&&_, _||_}
+use mathlib.Core.List.{List, [], _∷_, _++_}
+use lib.ListN.{length, drop}
+use lib.Dec.{leb, eqb}
+
+unfoldable pub run : ℕ → ℕ → List ℕ
+run i zero = []
+run i (suc m) = i ∷ run (i + 1) m
+
+unfoldable pub tab : ℕ → (ℕ → ℕ) → List ℕ
+tab zero g = []
+tab (suc n) g = g 0 ∷ tab n (λ i. g (suc i))
+
+unfoldable pub keep : (ℕ → Bool) → List ℕ → List ℕ
+keep p [] = []
+keep p (x ∷ xs) = cond (p x) (x ∷ keep p xs) (keep p xs)
+
+unfoldable pub has : List ℕ → ℕ → Bool
+has [] y = false
+has (x ∷ xs) y = eqb x y || has xs y
+
+unfoldable pub rises : ℕ → List ℕ → Bool
+rises a [] = true
+rises a (x ∷ xs) = leb a x && rises (x + 1) xs
+
+unfoldable pub written : List ℕ → List ℕ → List ℕ
+written new found = new ++ drop (length new) found

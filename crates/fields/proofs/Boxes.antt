@@ -1,0 +1,76 @@
+-- Boxes of any number of fields: two boxes meet exactly where they have a common point.
+use Prim.Native.Nat.{ℕ, zero, _≤_, _<_, max}
+use native.Mathlib.Nat.{le-max-left, le-max-right, max-le}
+use native.Mathlib.Omega.{arith}
+use mathlib.Core.Bool.{Bool, true, _&&_}
+use mathlib.Core.Path.{_≡_}
+use mathlib.Core.Logic.{_↔_}
+use mathlib.Core.List.{List}
+use lib.ListN.{length, getD}
+use lib.Dec.{leb}
+use borrow.Author.Tests.{leb-true, le-leb}
+use Rattle.facts.specs.Below.{allBelow}
+use Rattle.facts.specs.Lists.{tab}
+use Rattle.facts.proofs.Bools.{both, join}
+use Rattle.facts.proofs.Below.{all-below-at, all-below-of}
+use Rattle.facts.proofs.Tables.{length-tab, getD-tab}
+use Rattle.fields.specs.Boxes.{lowOf, highOf, Inside, Full, meets}
+
+-- in each field a begins no later than b ends, and b no later than a ends
+pub Overlap : ℕ → List (List ℕ) → List (List ℕ) → Type 0
+Overlap n a b = (f : ℕ) → f < n → (lowOf a f ≤ highOf b f) × (lowOf b f ≤ highOf a f)
+
+overlap-iff : (n : ℕ) (a b : List (List ℕ)) → (meets n a b ≡ true) ↔ Overlap n a b
+unfolding meets Overlap
+overlap-iff n a b = (λ e f l. to f (all-below-at n test e f l), λ o. all-below-of n test (λ f l. of f (o f l)))
+  where
+    test : ℕ → Bool
+    test f = leb (lowOf a f) (highOf b f) && leb (lowOf b f) (highOf a f)
+
+    to : (f : ℕ) → test f ≡ true → (lowOf a f ≤ highOf b f) × (lowOf b f ≤ highOf a f)
+    to f e =
+        let t = both (leb (lowOf a f) (highOf b f)) (leb (lowOf b f) (highOf a f)) e in
+        (leb-true _ _ (t .0), leb-true _ _ (t .1))
+
+    of : (f : ℕ) → (lowOf a f ≤ highOf b f) × (lowOf b f ≤ highOf a f) → test f ≡ true
+    of f o = join (le-leb _ _ (o .0)) (le-leb _ _ (o .1))
+
+-- the point of the greater lows
+corner : ℕ → List (List ℕ) → List (List ℕ) → List ℕ
+corner n a b = tab n (λ f. max (lowOf a f) (lowOf b f))
+
+module _ (n : ℕ) (a b : List (List ℕ)) (fullA : Full n a) (fullB : Full n b) (o : Overlap n a b) where
+  at : (f : ℕ) → f < n → getD (corner n a b) f 0 ≡ max (lowOf a f) (lowOf b f)
+  unfolding corner
+  at f l = getD-tab n (λ f. max (lowOf a f) (lowOf b f)) f l
+
+  corner-in-a : Inside n a (corner n a b)
+  unfolding Overlap
+  corner-in-a f l = rw (at f l) (le-max-left _ _, max-le (fullA f l) (o f l .1))
+
+  corner-in-b : Inside n b (corner n a b)
+  unfolding Overlap
+  corner-in-b f l = rw (at f l) (le-max-right _ _, max-le (o f l .0) (fullB f l))
+
+-- a point of two boxes of n fields
+pub record CommonPoint (n : ℕ) (a b : List (List ℕ)) : Type 0 where
+  pub point : List ℕ
+  pub fields : length point ≡ n
+  pub in-first : Inside n a point
+  pub in-second : Inside n b point
+
+-- two boxes that are not empty meet exactly where they have a common point
+pub meets-iff-common-point :
+    (n : ℕ) (a b : List (List ℕ)) → Full n a → Full n b → (meets n a b ≡ true) ↔ CommonPoint n a b
+unfolding Overlap corner
+meets-iff-common-point n a b fullA fullB = (
+  λ e.
+      let o = overlap-iff n a b .0 e in
+      record {
+        point = corner n a b;
+        fields = length-tab n (λ f. max (lowOf a f) (lowOf b f));
+        in-first = corner-in-a n a b fullA fullB o;
+        in-second = corner-in-b n a b fullA fullB o;
+      },
+  λ c. overlap-iff n a b .1 (λ f l. let p = c .in-first f l in let q = c .in-second f l in (omega arith, omega arith)),
+)

@@ -1,0 +1,95 @@
+-- Prefixes of addresses of any width: the tests one by one, and that a good prefix is its range.
+use Prim.Native.Nat.{ℕ, suc, _+_, _-_, _*_, _/_, _%_, _^_, _≤_, _<_}
+use native.Mathlib.Nat.{div-add-mod', mod-lt, mod-eq-of-lt, div-eq-of-lt-le}
+use native.Mathlib.Omega.{arith}
+use mathlib.Core.Bool.{true, false}
+use mathlib.Core.Path.{_≡_, refl, sym, ap, _∙_}
+use mathlib.Core.Logic.{_↔_}
+use lib.Dec.{leb, eqb}
+use lib.Pow.{pow-pos}
+use borrow.Author.Tests.{leb-true, le-leb, lt-leb, eqb-true, eq-eqb}
+use Rattle.facts.proofs.Bools.{both, join, same-test}
+use Rattle.fields.specs.Prefixes.{span, prefixGood, prefixAgrees}
+
+-- ---- the tests, as the code makes them
+
+-- a length over the width agrees with nothing
+pub long-disagrees : (w address len x : ℕ) → w < len → false ≡ prefixAgrees w address len x
+unfolding prefixAgrees
+long-disagrees w address len x l = rw (lt-leb len w l)
+
+-- within the width, the first bits decide
+pub first-bits-agree :
+    (w address len x : ℕ) {a b : ℕ} → len ≤ w → a ≡ address / span w len → b ≡ x / span w len →
+    eqb a b ≡ prefixAgrees w address len x
+unfolding prefixAgrees
+first-bits-agree w address len x l p q = rw (p, q, le-leb len w l)
+
+-- a length over the width is not good
+pub long-not-good : (w address len : ℕ) → w < len → false ≡ prefixGood w address len
+unfolding prefixGood
+long-not-good w address len l = rw (lt-leb len w l)
+
+-- within the width, a prefix is good exactly where its first bits, moved back to their place, are all of it
+pub moved-back-good :
+    (w address len : ℕ) {a b k : ℕ} → len ≤ w → a ≡ address / span w len → k ≡ w - len → b ≡ address →
+    address < 2 ^ 64 → eqb (a * 2 ^ k % 2 ^ 64) b ≡ prefixGood w address len
+unfolding prefixGood span
+moved-back-good w address len l p k q u =
+    rw (p, k, q, le-leb len w l, mod-eq-of-lt small)
+    (same-test (eqb (address / s * s) address) (eqb (address % s) 0) to of)
+  where
+    s : ℕ
+    s = 2 ^ (w - len)
+
+    small : address / s * s < 2 ^ 64
+    small = omega (arith, div-add-mod' address s)
+
+    to : eqb (address / s * s) address ≡ true → eqb (address % s) 0 ≡ true
+    to e = eq-eqb (address % s) 0 (omega (arith, div-add-mod' address s, eqb-true (address / s * s) address e))
+
+    of : eqb (address % s) 0 ≡ true → eqb (address / s * s) address ≡ true
+    of e = eq-eqb (address / s * s) address (omega (arith, div-add-mod' address s, eqb-true (address % s) 0 e))
+
+-- ---- a good prefix is its range
+
+module _ (w address len : ℕ) (good : prefixGood w address len ≡ true) where
+  s-pos : 0 < span w len
+  unfolding span
+  s-pos = pow-pos (w - len)
+
+  tests : (leb len w ≡ true) × (eqb (address % span w len) 0 ≡ true)
+  unfolding prefixGood
+  tests = both (leb len w) (eqb (address % span w len) 0) good
+
+  whole : address / span w len * span w len ≡ address
+  whole = omega (arith, div-add-mod' address (span w len), eqb-true (address % span w len) 0 (tests .1))
+
+  agrees-in-range : (x : ℕ) → prefixAgrees w address len x ≡ true → (address ≤ x) × (x ≤ address + span w len - 1)
+  unfolding prefixAgrees
+  agrees-in-range x e = (
+    omega (arith, div-add-mod' x (span w len), whole, q),
+    omega (arith, div-add-mod' x (span w len), whole, q, mod-lt x s-pos),
+  )
+    where
+      q : address / span w len * span w len ≡ x / span w len * span w len
+      q =
+          ap (λ (k : ℕ). k * span w len)
+          (eqb-true (address / span w len) (x / span w len)
+          (both (leb len w) (eqb (address / span w len) (x / span w len)) e .1))
+
+  range-agrees : (x : ℕ) → (address ≤ x) × (x ≤ address + span w len - 1) → prefixAgrees w address len x ≡ true
+  unfolding prefixAgrees
+  range-agrees x h = join (tests .0) (eq-eqb (address / span w len) (x / span w len) (sym q))
+    where
+      q : x / span w len ≡ address / span w len
+      q = div-eq-of-lt-le (span w len) (omega (arith, whole)) (omega (arith, whole, s-pos))
+
+  -- a good prefix agrees with exactly the words from its address up to address + 2^(w - len) - 1
+  pub prefix-is-range :
+      (x : ℕ) → (prefixAgrees w address len x ≡ true) ↔ ((address ≤ x) × (x ≤ address + span w len - 1))
+  prefix-is-range x = (λ e. agrees-in-range x e, λ h. range-agrees x h)
+
+  -- the range of a good prefix is not empty
+  pub prefix-not-empty : address ≤ address + span w len - 1
+  prefix-not-empty = omega (arith, s-pos)

@@ -1,0 +1,12 @@
+-- Ranges: a low and a high end. Definitions only.
+--   rangeGood low high top    low is at most high, and high at most top
+--   rangeHolds low high x     x lies between the ends, both included
+use Prim.Native.Nat.{ℕ}
+use mathlib.Core.Bool.{Bool, _&&_}
+use lib.Dec.{leb}
+
+unfoldable pub rangeGood : ℕ → ℕ → ℕ → Bool
+rangeGood low high top = leb low high && leb high top
+
+unfoldable pub rangeHolds : ℕ → ℕ → ℕ → Bool
+rangeHolds low high x = leb low x && leb x high

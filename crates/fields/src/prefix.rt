@@ -1,0 +1,43 @@
+// Prefixes: an address and how many of its first bits count.
+ghost use Prim.Native.Nat.{_/_, _≤_};
+ghost use mathlib.Core.Path.{_≡_};
+ghost use Rattle.fields.specs.Words.{addressBits};
+ghost use Rattle.fields.specs.Prefixes.{span, prefixGood, prefixAgrees};
+
+// The number of an address's bits.
+pub const ADDRESS_BITS: u32 = 32;
+
+// Whether the length is at most that of an address, and the bits past it are zero.
+pub fn prefix_good(address: u32, len: u32) -> bool
+    ensures { λ r. ⌜ r ≡ prefixGood addressBits address len ⌝ }
+{
+    if ADDRESS_BITS < len {
+        return false;
+    }
+    first_bits(address, len) << wide(ADDRESS_BITS - len) == wide(address)
+}
+
+// Whether the first `len` bits of the address and of the word agree. A length over that of an address agrees with
+// nothing, and length 0 with everything.
+pub fn prefix_agrees(address: u32, len: u32, word: u32) -> bool
+    ensures { λ r. ⌜ r ≡ prefixAgrees addressBits address len word ⌝ }
+{
+    if ADDRESS_BITS < len {
+        return false;
+    }
+    first_bits(address, len) == first_bits(word, len)
+}
+
+// The first `len` bits of a word. It is shifted as a u64, so that a length of 0 may shift it by its whole width.
+fn first_bits(word: u32, len: u32) -> u64
+    requires { ⌜ len ≤ addressBits ⌝ }
+    ensures { λ r. ⌜ r ≡ word / span addressBits len ⌝ }
+{
+    wide(word) >> wide(ADDRESS_BITS - len)
+}
+
+fn wide(word: u32) -> u64
+    ensures { λ r. ⌜ r ≡ word ⌝ }
+{
+    word as u64
+}

@@ -1,0 +1,7 @@
+-- Laws of lists of rules: what is good, what a rule means, what the searches say and list, and that promises are exact.
+pub mod Lists
+pub mod Meaning
+pub mod Listing
+pub mod Searches
+pub mod Lent
+pub mod Unique

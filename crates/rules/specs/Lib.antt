@@ -1,0 +1,8 @@
+-- Lists of rules, and the promises of the rule check and the line search.
+pub mod Words
+pub mod Good
+pub mod Matching
+pub mod RuleCheck
+pub mod LineAll
+pub mod LineFirst
+pub mod LineSteps

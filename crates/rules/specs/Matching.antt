@@ -1,0 +1,33 @@
+-- Matching: rules and headers. Definitions only.
+--   fieldMatches form rs r x    the first bits agree with a prefix of rule r, or x lies in a range of it
+--   matches rs h r              rule r matches header h: each field does; for any words
+--   matching rs h               the numbers of the rules that match h, rising
+--   fieldEnds form rs r         the range that a field of a good rule stands for
+--   ruleBox rs r                the box that a good rule stands for
+use Prim.Native.Nat.{ℕ, zero, _+_}
+use mathlib.Core.Bool.{Bool}
+use mathlib.Core.List.{List, [], _∷_, map}
+use lib.ListN.{getD}
+use Rattle.facts.specs.Below.{allBelow}
+use Rattle.facts.specs.Lists.{run, keep}
+use Rattle.fields.specs.Words.{addressBits, fieldCount}
+use Rattle.fields.specs.Prefixes.{prefixAgrees, prefixEnds}
+use Rattle.fields.specs.Ranges.{rangeHolds}
+use Rattle.rules.specs.Words.{ruleCount, wordOf, Form, prefix, range, forms, formOf}
+
+abbrev pub fieldMatches : Form → List ℕ → ℕ → ℕ → Bool
+fieldMatches (prefix j) rs r x = prefixAgrees addressBits (wordOf rs r j) (wordOf rs r (j + 1)) x
+fieldMatches (range j) rs r x = rangeHolds (wordOf rs r j) (wordOf rs r (j + 1)) x
+
+unfoldable pub matches : List ℕ → List ℕ → ℕ → Bool
+matches rs h r = allBelow fieldCount (λ f. fieldMatches (formOf f) rs r (getD h f 0))
+
+unfoldable pub matching : List ℕ → List ℕ → List ℕ
+matching rs h = keep (matches rs h) (run 0 (ruleCount rs))
+
+abbrev pub fieldEnds : Form → List ℕ → ℕ → List ℕ
+fieldEnds (prefix j) rs r = prefixEnds addressBits (wordOf rs r j) (wordOf rs r (j + 1))
+fieldEnds (range j) rs r = wordOf rs r j ∷ wordOf rs r (j + 1) ∷ []
+
+unfoldable pub ruleBox : List ℕ → ℕ → List (List ℕ)
+ruleBox rs r = map (λ form. fieldEnds form rs r) forms

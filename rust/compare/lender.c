@@ -1,0 +1,121 @@
+// The lender: makes the library's calls for `compare`, in memory that both programs have mapped.
+//
+//     lender ARENA
+//
+// The library is x86-64 code, and so is this program, while `compare` is code of the machine that it runs on. ARENA is
+// a file; every slice that a call is lent is a part of it. Standard input gives one request for each call. Standard
+// output takes a word for each of them, and one before: the arena's size in bytes once it is mapped; then, when a call
+// has returned, the number of the call, or 0 where there is no such call. The end of the input ends the program with
+// status 0, and whatever goes wrong here ends it with status 2.
+//
+// The kit that compiles this has no C headers, so nothing is included and all that is used is declared.
+
+typedef unsigned int u32;
+typedef unsigned long u64;
+
+// The library. A slice is a pointer and its length; an answer is eight words.
+void wick_rule_check(const u32 *rules, u64 rules_len, u64 *answer);
+void wick_line_all(const u32 *rules, u64 rules_len, const u32 *header, u64 header_len, u32 *out, u64 out_len,
+                   u64 *answer);
+void wick_line_first(const u32 *rules, u64 rules_len, const u32 *header, u64 header_len, u64 *answer);
+
+// The C library, and its numbers on x86-64 Linux.
+int open(const char *path, int flags, ...);
+long lseek(int file, long offset, int from);
+void *mmap(void *at, u64 size, int access, int flags, int file, long offset);
+long read(int file, void *to, u64 size);
+long write(int file, const void *from, u64 size);
+
+enum { STANDARD_INPUT = 0, STANDARD_OUTPUT = 1 };
+enum { READ_AND_WRITE = 2, TO_THE_END = 2 };                          // O_RDWR, SEEK_END
+enum { NO_ACCESS = 0, READABLE = 1, WRITABLE = 2 };                   // PROT_NONE, PROT_READ, PROT_WRITE
+enum { SHARED = 0x01, PRIVATE = 0x02, FIXED = 0x10, NO_FILE = 0x20 }; // MAP_.., the last being MAP_ANONYMOUS
+#define NOT_MAPPED ((void *)-1)                                       // MAP_FAILED
+
+// The calls' numbers, as `abi.rs` has them.
+enum { RULE_CHECK = 1, LINE_ALL = 2, LINE_FIRST = 3 };
+
+// The bytes on either side of the arena that a call may not touch: one that does ends the program.
+enum { MARGIN = 1 << 20 };
+
+struct slice {
+    u64 offset; // where it begins, in bytes from the arena's start
+    u64 length; // as the call takes it
+};
+
+// One request, as `abi.rs` writes it. What a call does not take is 0.
+struct request {
+    u64 call;
+    struct slice slices[6]; // in the order of the call's parameters
+    u64 number;
+    u64 answer; // where the answer begins, in bytes from the arena's start
+};
+
+// Slice `i` as a call takes it, where its elements are 32-bit words.
+#define WORDS(i) (u32 *)(arena + asked->slices[i].offset), asked->slices[i].length
+
+// Makes the call that is asked for, and gives its number; gives 0 where there is no such call.
+static u64 make_call(char *arena, const struct request *asked) {
+    u64 *answer = (u64 *)(arena + asked->answer);
+    switch (asked->call) {
+    case RULE_CHECK:
+        wick_rule_check(WORDS(0), answer);
+        return RULE_CHECK;
+    case LINE_ALL:
+        wick_line_all(WORDS(0), WORDS(1), WORDS(2), answer);
+        return LINE_ALL;
+    case LINE_FIRST:
+        wick_line_first(WORDS(0), WORDS(1), answer);
+        return LINE_FIRST;
+    default:
+        return 0;
+    }
+}
+
+// Maps the file between two margins. Gives its start and leaves its size, or gives null.
+static char *map_arena(const char *path, u64 *size) {
+    int file = open(path, READ_AND_WRITE);
+    long end = lseek(file, 0, TO_THE_END);
+    if (file < 0 || end <= 0) return 0;
+    char *margins = mmap(0, end + 2 * MARGIN, NO_ACCESS, PRIVATE | NO_FILE, -1, 0);
+    if (margins == NOT_MAPPED) return 0;
+    char *arena = mmap(margins + MARGIN, end, READABLE | WRITABLE, SHARED | FIXED, file, 0);
+    if (arena == NOT_MAPPED) return 0;
+    *size = end;
+    return arena;
+}
+
+// Reads a request, in as many parts as it comes in. Gives 1, or 0 where the input ends before it, or -1.
+static int read_request(struct request *asked) {
+    u64 done = 0;
+    while (done < sizeof *asked) {
+        long part = read(STANDARD_INPUT, (char *)asked + done, sizeof *asked - done);
+        if (part == 0 && done == 0) return 0;
+        if (part <= 0) return -1;
+        done += part;
+    }
+    return 1;
+}
+
+// Writes one word, in as many parts as are taken. Gives 1, or 0 where it cannot be written.
+static int write_word(u64 word) {
+    u64 done = 0;
+    while (done < sizeof word) {
+        long part = write(STANDARD_OUTPUT, (char *)&word + done, sizeof word - done);
+        if (part <= 0) return 0;
+        done += part;
+    }
+    return 1;
+}
+
+int main(int count, char **given) {
+    u64 size = 0;
+    char *arena = count == 2 ? map_arena(given[1], &size) : 0;
+    if (!arena || !write_word(size)) return 2;
+    struct request asked;
+    int more = read_request(&asked);
+    while (more == 1 && write_word(make_call(arena, &asked))) {
+        more = read_request(&asked);
+    }
+    return more == 0 ? 0 : 2;
+}

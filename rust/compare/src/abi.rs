@@ -1,0 +1,58 @@
+//! The library's calls: how the lender is asked for one, and how an answer stands in the eight words that it writes.
+
+use oracle::Answer;
+
+use crate::arena::Lent;
+
+/// The words of an answer: number, place, extra, a, b, c and two that are 0. A call writes all of them.
+pub const ANSWER_WORDS: usize = 8;
+
+/// The most slices that a request names, besides the answer.
+const MOST_SLICES: usize = 6;
+/// The words of a request: the call, an offset and a length for each slice, a number, and the answer's offset.
+pub const REQUEST_WORDS: usize = 1 + 2 * MOST_SLICES + 2;
+
+/// Words of 32 and of 64 bits are shared with x86-64 code, which puts the lowest byte first.
+const _: () = assert!(cfg!(target_endian = "little"));
+
+/// A call, by the number that `lender.c` has for it.
+#[derive(Clone, Copy)]
+pub enum Call {
+    RuleCheck = 1,
+    LineAll = 2,
+    LineFirst = 3,
+}
+
+impl Call {
+    /// The call's name in C.
+    pub fn name(self) -> &'static str {
+        match self {
+            Call::RuleCheck => "wick_rule_check",
+            Call::LineAll => "wick_line_all",
+            Call::LineFirst => "wick_line_first",
+        }
+    }
+
+    /// The call's number in a request, and in the lender's reply to it.
+    pub fn number(self) -> u64 {
+        self as u64
+    }
+}
+
+/// Asks for the call with these slices, in the order of its parameters. No call takes a number, so it is 0.
+pub fn request(call: Call, slices: &[Lent], answer: Lent) -> [u64; REQUEST_WORDS] {
+    assert!(slices.len() <= MOST_SLICES);
+    let mut words = [0; REQUEST_WORDS];
+    words[0] = call.number();
+    for (pair, slice) in words[1..].chunks_exact_mut(2).zip(slices) {
+        pair.copy_from_slice(&[slice.offset(), slice.length()]);
+    }
+    words[REQUEST_WORDS - 1] = answer.offset();
+    words
+}
+
+/// The words that a call must write where this is its answer.
+pub fn answer_words(answer: &Answer) -> [u64; ANSWER_WORDS] {
+    let Answer { number, place, extra, a, b, c } = *answer;
+    [number, place, extra, a, b, c, 0, 0]
+}

@@ -1,0 +1,118 @@
+//! One call of the library beside the same call of the oracle, with all lent memory compared after it.
+
+use std::io::{self, Write};
+use std::time::Instant;
+
+use oracle::Answer;
+
+use crate::abi::{answer_words, Call};
+use crate::arena::{Arena, Lent};
+use crate::lender::{Lender, Silence};
+use crate::mapping::Mapping;
+use crate::mismatch::{Deed, Inputs, Mismatch};
+
+/// What a comparison gives: the oracle's answer, with which the library agrees, or a `Mismatch` in writing.
+pub type Agreed = Result<Answer, String>;
+/// What a run of comparisons gives.
+pub type Run = Result<(), String>;
+
+/// Counts the answers by their refusal number, 0 for a completed call. The scope's numbers end at 12.
+type Tally = [u64; 13];
+
+pub struct Bench {
+    lender: Lender,
+    arena: Arena,
+    group: String,
+    calls: u64,
+    tally: Tally,
+}
+
+impl Bench {
+    /// A bench whose calls are made by this lender, in these words that both have mapped.
+    pub fn new(lender: Lender, words: Mapping) -> Bench {
+        Bench { lender, arena: Arena::of(words), group: String::new(), calls: 0, tally: Tally::default() }
+    }
+
+    /// Lets the lender end, which must be willing to. Gives how many calls were compared.
+    pub fn finish(self) -> Result<u64, Silence> {
+        self.lender.finish().map(|()| self.calls)
+    }
+
+    /// Runs a group of comparisons, and writes its line: what it does at once, what came of it at its end.
+    pub fn group(&mut self, purpose: &str, deed: &str, run: impl FnOnce(&mut Bench) -> Run) -> Run {
+        self.group = format!("{purpose}: {deed}");
+        print!("{} ..", self.group);
+        io::stdout().flush().expect("standard output is written");
+        let (calls, start) = (self.calls, Instant::now());
+        self.tally = Tally::default();
+        run(self)?;
+        let seconds = start.elapsed().as_secs_f64();
+        println!(" {} calls in {seconds:.2} s: {}", self.calls - calls, tally_text(&self.tally));
+        Ok(())
+    }
+
+    pub fn rule_check(&mut self, case: &str, rules: &[u32]) -> Agreed {
+        self.arena.take_back();
+        let lent_rules = self.arena.lend("rules", rules);
+        let answer = oracle::rule_check(rules);
+        let inputs = Inputs { call: Call::RuleCheck, case, rules, header: None, room: None };
+        self.compare(inputs, &[lent_rules], answer)
+    }
+
+    pub fn line_all(&mut self, case: &str, rules: &[u32], header: &[u32], room: usize) -> Agreed {
+        self.arena.take_back();
+        let lent_rules = self.arena.lend("rules", rules);
+        let lent_header = self.arena.lend("header", header);
+        let lent_out = self.arena.lend_room("out", room);
+        let answer = oracle::line_all(rules, header, self.arena.wanted(lent_out));
+        let inputs = Inputs { call: Call::LineAll, case, rules, header: Some(header), room: Some(room) };
+        self.compare(inputs, &[lent_rules, lent_header, lent_out], answer)
+    }
+
+    pub fn line_first(&mut self, case: &str, rules: &[u32], header: &[u32]) -> Agreed {
+        self.arena.take_back();
+        let lent_rules = self.arena.lend("rules", rules);
+        let lent_header = self.arena.lend("header", header);
+        let answer = oracle::line_first(rules, header);
+        let inputs = Inputs { call: Call::LineFirst, case, rules, header: Some(header), room: None };
+        self.compare(inputs, &[lent_rules, lent_header], answer)
+    }
+
+    /// All three calls. All-match has room for a number of every rule, and one over; its answer is given back.
+    pub fn all_calls(&mut self, case: &str, rules: &[u32], header: &[u32]) -> Agreed {
+        self.rule_check(case, rules)?;
+        self.line_first(case, rules, header)?;
+        self.line_all(case, rules, header, rules.len() / 10 + 1)
+    }
+
+    /// Has the library make the call with these slices, and compares the whole arena with what the oracle has left
+    /// in its own copy and this answer of it.
+    fn compare(&mut self, inputs: Inputs, slices: &[Lent], answer: Answer) -> Agreed {
+        let oracle = answer_words(&answer);
+        let lent_answer = self.arena.lend_answer();
+        self.arena.want_answer(lent_answer, oracle);
+        let library = match self.lender.call(self.arena.lent_words(), inputs.call, slices, lent_answer) {
+            Ok(()) if self.arena.is_as_wanted() => {
+                self.calls += 1;
+                self.tally[answer.number as usize] += 1;
+                return Ok(answer);
+            }
+            Ok(()) => {
+                Deed::Left { answer: self.arena.found_answer(lent_answer), differences: self.arena.differences() }
+            }
+            Err(silence) => Deed::Stayed(silence),
+        };
+        Err(Mismatch { group: &self.group, inputs, library, oracle }.to_string())
+    }
+}
+
+/// How many calls were completed, and how many were refused with each number.
+fn tally_text(tally: &Tally) -> String {
+    let mut text = format!("{} completed", tally[0]);
+    for (number, count) in tally.iter().enumerate().skip(1) {
+        if *count > 0 {
+            text += &format!(", {count} refused {number}");
+        }
+    }
+    text
+}

@@ -1,0 +1,112 @@
+//! The order of refusals: inputs with several faults at once get the lowest number.
+
+use crate::bench::{Bench, Run};
+use crate::damages::damaged_rules;
+use crate::draws::Draws;
+use crate::headers;
+use crate::lists::{self, Manner, Rule, EVERYTHING};
+
+/// The ways in which `break_length` and `break_header` break their words.
+const FORMS: usize = 4;
+
+/// Which of the refusals 1 to 4 an input has a fault for.
+#[derive(Clone, Copy, Debug)]
+struct Faults([bool; 4]);
+
+/// The inputs of one line search.
+struct Input {
+    words: Vec<u32>,
+    header: Vec<u32>,
+    room: usize,
+}
+
+pub fn run(bench: &mut Bench) -> Run {
+    bench.group("damage", "every set of faults at once, in the order 1, 2, 3, 4", every_set)
+}
+
+fn every_set(bench: &mut Bench) -> Run {
+    let mut seed = 340_000;
+    for set in 0..16 {
+        let faults = Faults(std::array::from_fn(|index| (set >> index) & 1 == 1));
+        for form in 0..FORMS * FORMS {
+            for size in [1, 2, 7, 100, 512] {
+                compare(bench, seed, size, faults, form)?;
+                seed += 1;
+            }
+        }
+    }
+    Ok(())
+}
+
+/// Rule check looks for faults 1 and 2 only, first-match for 1 to 3, and all-match for all four.
+fn compare(bench: &mut Bench, seed: u64, size: usize, faults: Faults, form: usize) -> Run {
+    let Input { words, header, room } = input(seed, size, faults, form);
+    let case = format!("seed {seed}, list of {size}, {faults:?}, form {form}");
+    let check = bench.rule_check(&case, &words)?;
+    let first = bench.line_first(&case, &words, &header)?;
+    let all = bench.line_all(&case, &words, &header, room)?;
+    assert_eq!(check.number, faults.lowest_of(2), "the oracle: {case}");
+    assert_eq!(first.number, faults.lowest_of(3), "the oracle: {case}");
+    assert_eq!(all.number, faults.lowest_of(4), "the oracle: {case}");
+    Ok(())
+}
+
+impl Faults {
+    fn has(&self, number: usize) -> bool {
+        self.0[number - 1]
+    }
+
+    /// The lowest number up to `most` that there is a fault for, or 0.
+    fn lowest_of(&self, most: usize) -> u64 {
+        (1..=most).find(|&number| self.has(number)).unwrap_or(0) as u64
+    }
+}
+
+fn input(seed: u64, size: usize, faults: Faults, form: usize) -> Input {
+    let mut draws = Draws::seeded(seed);
+    let mut rules = lists::good_list(&mut draws, size, Manner::Mixed).rules;
+    // One rule matches every header, so that no room is too short a room.
+    rules[size / 2] = EVERYTHING;
+    if faults.has(2) {
+        break_rule(&mut rules, &mut draws);
+    }
+    let mut words = rules.concat();
+    if faults.has(1) {
+        break_length(&mut words, form % FORMS);
+    }
+    let mut header = headers::anywhere(&mut draws).to_vec();
+    if faults.has(3) {
+        break_header(&mut header, form / FORMS);
+    }
+    let room = if faults.has(4) { 0 } else { size };
+    Input { words, header, room }
+}
+
+/// Damages one rule, in any way.
+fn break_rule(rules: &mut [Rule], draws: &mut Draws) {
+    let place = draws.below(rules.len());
+    let kinds = damaged_rules(&rules[place]);
+    rules[place] = kinds[draws.below(kinds.len())].rule;
+}
+
+/// Makes the words no list: a word too few, a word too many, 513 rules, or these and a word.
+fn break_length(words: &mut Vec<u32>, form: usize) {
+    if form >= 2 {
+        words.extend(EVERYTHING.repeat(513 - words.len() / 10));
+    }
+    match form {
+        0 => words.truncate(words.len() - 1),
+        1 | 3 => words.push(u32::MAX),
+        _ => {}
+    }
+}
+
+/// Makes the words no header: too short, too long, or with too large a field.
+fn break_header(words: &mut Vec<u32>, form: usize) {
+    match form {
+        0 => words.truncate(4),
+        1 => words.push(0),
+        2 => words[3] = 65_536,
+        _ => words[4] = u32::MAX,
+    }
+}

@@ -1,0 +1,145 @@
+//! Good lists of rules: the worked policy, and lists drawn so that few, many or neighbouring rules match.
+
+use crate::draws::Draws;
+use crate::headers::{self, Header, LARGEST};
+
+/// The ten words of a rule.
+pub type Rule = [u32; 10];
+
+/// The rule that matches every header.
+pub const EVERYTHING: Rule = [0, 0, 0, 0, 0, 65_535, 0, 65_535, 0, 255];
+
+/// The worked policy's rules 0, 1 and 2.
+pub const WORKED_POLICY: [Rule; 3] =
+    [[0x0A00_0000, 8, 0, 0, 0, 65_535, 80, 80, 6, 6], [0x0A01_0000, 16, 0, 0, 0, 65_535, 0, 1_023, 6, 6], EVERYTHING];
+
+/// How the rules of a drawn list stand to each other.
+#[derive(Clone, Copy, Debug)]
+pub enum Manner {
+    /// Every rule holds the same point, so that its header matches all of them.
+    Nested,
+    /// Every rule would hold one of a few points, but ends just beside it in one field.
+    Beside,
+    /// Rules lie anywhere.
+    Scattered,
+    /// Some of each.
+    Mixed,
+}
+
+pub const MANNERS: [Manner; 4] = [Manner::Nested, Manner::Beside, Manner::Scattered, Manner::Mixed];
+
+/// A good list, and the points that its rules were drawn around.
+pub struct List {
+    pub rules: Vec<Rule>,
+    pub points: Vec<Header>,
+}
+
+impl List {
+    pub fn words(&self) -> Vec<u32> {
+        self.rules.concat()
+    }
+}
+
+/// Draws a good list of this many rules.
+pub fn good_list(draws: &mut Draws, count: usize, manner: Manner) -> List {
+    let several = match manner {
+        Manner::Nested => 1,
+        _ => 1 + draws.below(4),
+    };
+    let points: Vec<Header> = (0..several).map(|_| headers::anywhere(draws)).collect();
+    let rules = (0..count)
+        .map(|_| {
+            let point = draws.pick(&points);
+            match manner {
+                Manner::Nested => around(draws, &point),
+                Manner::Beside => beside(draws, &point),
+                Manner::Scattered => scattered(draws),
+                Manner::Mixed => match draws.below(8) {
+                    0 => EVERYTHING,
+                    1 => scattered(draws),
+                    2 | 3 => beside(draws, &point),
+                    _ => around(draws, &point),
+                },
+            }
+        })
+        .collect();
+    List { rules, points }
+}
+
+/// The prefix of this length that the address has: its bits past the length are zero.
+pub fn prefix(address: u32, length: u32) -> [u32; 2] {
+    let count = 2_u64.pow(32 - length);
+    let stray = u64::from(address) % count;
+    [address - stray as u32, length]
+}
+
+/// A good rule that matches the point.
+fn around(draws: &mut Draws, point: &Header) -> Rule {
+    let mut rule = EVERYTHING;
+    for field in 0..5 {
+        let pair = match field {
+            0 | 1 => prefix(point[field], length(draws)),
+            _ => range_around(draws, point[field], LARGEST[field]),
+        };
+        rule[2 * field..2 * field + 2].copy_from_slice(&pair);
+    }
+    rule
+}
+
+/// A range that holds the value; once in four it begins or ends there, or is the whole field.
+fn range_around(draws: &mut Draws, value: u32, largest: u32) -> [u32; 2] {
+    let low = draws.between(0, value);
+    let high = draws.between(value, largest);
+    match draws.below(16) {
+        0 => [value, value],
+        1 => [value, high],
+        2 => [low, value],
+        3 => [0, largest],
+        _ => [low, high],
+    }
+}
+
+/// A good rule that would match the point, but for one field that ends just beside it.
+fn beside(draws: &mut Draws, point: &Header) -> Rule {
+    let mut rule = around(draws, point);
+    let field = draws.below(5);
+    let pair = match field {
+        0 | 1 => sibling(draws, point[field]),
+        _ => range_beside(draws, point[field], LARGEST[field]),
+    };
+    rule[2 * field..2 * field + 2].copy_from_slice(&pair);
+    rule
+}
+
+/// A range that ends just below the value or begins just above it.
+fn range_beside(draws: &mut Draws, value: u32, largest: u32) -> [u32; 2] {
+    let below = value == largest || (value > 0 && draws.once_in(2));
+    if below {
+        [draws.between(0, value - 1), value - 1]
+    } else {
+        [value + 1, draws.between(value + 1, largest)]
+    }
+}
+
+/// A prefix that differs from the address in its last bit only.
+fn sibling(draws: &mut Draws, address: u32) -> [u32; 2] {
+    let length = draws.between(1, 32);
+    let last = 2_u32.pow(32 - length);
+    let [address, length] = prefix(address, length);
+    [address ^ last, length]
+}
+
+/// A good rule anywhere.
+fn scattered(draws: &mut Draws) -> Rule {
+    let point = headers::anywhere(draws);
+    around(draws, &point)
+}
+
+/// The length of a prefix: 0 and 32 more often than the others.
+fn length(draws: &mut Draws) -> u32 {
+    match draws.below(8) {
+        0 => 0,
+        1 => 32,
+        _ => draws.between(0, 32),
+    }
+}

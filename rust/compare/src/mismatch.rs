@@ -1,0 +1,99 @@
+//! What is written about a call on which the library and the oracle differ, or which the library does not answer.
+
+use std::fmt::{self, Display, Formatter};
+
+use crate::abi::{Call, ANSWER_WORDS};
+use crate::arena::Difference;
+use crate::lender::Silence;
+
+/// The most rules of a list that are written out.
+const SHOWN_RULES: usize = 6;
+/// The most words of any other slice, and the most differences, that are written out.
+const SHOWN_WORDS: usize = 12;
+
+/// A call and what it is given.
+pub struct Inputs<'a> {
+    pub call: Call,
+    pub case: &'a str,
+    pub rules: &'a [u32],
+    /// None where the call takes no header.
+    pub header: Option<&'a [u32]>,
+    /// None where the call takes no output.
+    pub room: Option<usize>,
+}
+
+/// What the library did.
+pub enum Deed {
+    /// It left the lent memory otherwise than the oracle has it, with this answer in it.
+    Left { answer: [u64; ANSWER_WORDS], differences: Vec<Difference> },
+    /// It did not come back from the call.
+    Stayed(Silence),
+}
+
+/// A call, what it was given, and what differs.
+pub struct Mismatch<'a> {
+    pub group: &'a str,
+    pub inputs: Inputs<'a>,
+    pub library: Deed,
+    pub oracle: [u64; ANSWER_WORDS],
+}
+
+impl Display for Mismatch<'_> {
+    fn fmt(&self, to: &mut Formatter) -> fmt::Result {
+        writeln!(to, "MISMATCH in {}", self.inputs.call.name())?;
+        writeln!(to, "  group    {}", self.group)?;
+        writeln!(to, "  case     {}", self.inputs.case)?;
+        self.show_rules(to)?;
+        if let Some(header) = self.inputs.header {
+            let shown = &header[..header.len().min(SHOWN_WORDS)];
+            writeln!(to, "  header   {} words: {shown:?}", header.len())?;
+        }
+        if let Some(room) = self.inputs.room {
+            writeln!(to, "  room     {room} numbers")?;
+        }
+        match &self.library {
+            Deed::Left { answer, .. } => writeln!(to, "  library  {}", AnswerWords(answer))?,
+            Deed::Stayed(silence) => writeln!(to, "  library  no answer: {silence}")?,
+        }
+        writeln!(to, "  oracle   {}", AnswerWords(&self.oracle))?;
+        self.show_differences(to)
+    }
+}
+
+impl Mismatch<'_> {
+    /// Writes the first rules of the list, and the rule that either answer names by its place or its value.
+    fn show_rules(&self, to: &mut Formatter) -> fmt::Result {
+        writeln!(to, "  rules    {} words", self.inputs.rules.len())?;
+        let names = |answer: &[u64], number: usize| answer[1] == number as u64 || answer[4] == number as u64;
+        let named = |number| match &self.library {
+            Deed::Left { answer, .. } => names(answer, number) || names(&self.oracle, number),
+            Deed::Stayed(_) => names(&self.oracle, number),
+        };
+        for (number, rule) in self.inputs.rules.chunks(10).enumerate() {
+            if number < SHOWN_RULES || named(number) {
+                writeln!(to, "    rule {number}: {rule:?}")?;
+            }
+        }
+        Ok(())
+    }
+
+    /// Writes the first words of the lent memory that differ, where the library came back from the call.
+    fn show_differences(&self, to: &mut Formatter) -> fmt::Result {
+        let Deed::Left { differences, .. } = &self.library else { return Ok(()) };
+        writeln!(to, "  {} words of the lent memory differ", differences.len())?;
+        for Difference { at, found, wanted } in differences.iter().take(SHOWN_WORDS) {
+            writeln!(to, "    {at}: library {found:#010x}, oracle {wanted:#010x}")?;
+        }
+        Ok(())
+    }
+}
+
+/// An answer's words with their names.
+struct AnswerWords<'a>(&'a [u64; ANSWER_WORDS]);
+
+impl Display for AnswerWords<'_> {
+    fn fmt(&self, to: &mut Formatter) -> fmt::Result {
+        let [number, place, extra, a, b, c, rest @ ..] = self.0;
+        write!(to, "number {number}, place {place}, extra {extra}, a {a}, b {b}, c {c}, rest {rest:?}")
+    }
+}

@@ -1,0 +1,52 @@
+//! What a call answers: the number, place and extra of a refusal, or the values of a completed call.
+
+/// The answer of any call. A completed call has number, place and extra 0; a refused one has `a`, `b` and `c` 0.
+/// Which values a completed call gives is said at the call; a value that is not named there is 0.
+#[derive(Clone, Copy, Debug, PartialEq, Eq)]
+pub struct Answer {
+    pub number: u64,
+    pub place: u64,
+    pub extra: u64,
+    pub a: u64,
+    pub b: u64,
+    pub c: u64,
+}
+
+impl Answer {
+    pub fn completed(a: u64, b: u64, c: u64) -> Answer {
+        Answer { number: 0, place: 0, extra: 0, a, b, c }
+    }
+
+    pub fn refused(refusal: Refusal) -> Answer {
+        let (number, place, extra) = refusal.number_place_extra();
+        Answer { number, place, extra, a: 0, b: 0, c: 0 }
+    }
+}
+
+/// What is wrong, as in the scope's table of refusal numbers.
+#[derive(Clone, Copy, Debug, PartialEq, Eq)]
+pub enum Refusal {
+    /// The rule words are not a multiple of ten, or over 5,120.
+    RuleWords,
+    /// A rule is not good; this is the lowest such rule.
+    RuleNotGood { rule: usize },
+    /// The header is not five words.
+    HeaderLength,
+    /// A port or the protocol is too large; this is the lowest such field.
+    HeaderField { field: usize },
+    /// The lent output is too short for the numbers needed.
+    OutputShort { needed: usize },
+}
+
+impl Refusal {
+    /// The table's row for this refusal.
+    fn number_place_extra(self) -> (u64, u64, u64) {
+        match self {
+            Refusal::RuleWords => (1, 0, 0),
+            Refusal::RuleNotGood { rule } => (2, rule as u64, 0),
+            Refusal::HeaderLength => (3, 5, 0),
+            Refusal::HeaderField { field } => (3, field as u64, 0),
+            Refusal::OutputShort { needed } => (4, needed as u64, 0),
+        }
+    }
+}

@@ -1,0 +1,40 @@
+//! When a rule matches a header. This is defined for any ten words, good or not.
+
+use crate::header::Header;
+use crate::rules::{Prefix, Range, Rule};
+
+/// Does each address agree in the rule's first bits, and does each other field lie in its range?
+pub fn matches(rule: &Rule, header: &Header) -> bool {
+    agrees(rule.source, header.source)
+        && agrees(rule.destination, header.destination)
+        && lies_in(rule.source_port, header.source_port)
+        && lies_in(rule.destination_port, header.destination_port)
+        && lies_in(rule.protocol, header.protocol)
+}
+
+/// Are the first *length* bits of both addresses the same? They are compared one by one, from the most
+/// significant. Length 0 compares none, and so agrees with everything; a length over 32 agrees with nothing.
+pub fn agrees(prefix: Prefix, address: u32) -> bool {
+    let ours = bits(prefix.address);
+    let theirs = bits(address);
+    if prefix.length as usize > ours.len() {
+        return false;
+    }
+    (0..prefix.length as usize).all(|position| ours[position] == theirs[position])
+}
+
+/// Does the value lie in the range, ends included? A range with low over high holds nothing.
+pub fn lies_in(range: Range, value: u32) -> bool {
+    range.low <= value && value <= range.high
+}
+
+/// The 32 bits of a word, the most significant first. They are found by halving, from the last to the first.
+pub fn bits(word: u32) -> [bool; 32] {
+    let mut bits = [false; 32];
+    let mut rest = word;
+    for bit in bits.iter_mut().rev() {
+        *bit = rest % 2 == 1;
+        rest /= 2;
+    }
+    bits
+}

@@ -1,0 +1,98 @@
+//! Rules: ten words each, when one is good, and the rule check.
+
+use crate::answer::{Answer, Refusal};
+use crate::matching::bits;
+
+/// The words of one rule.
+pub const RULE_WORDS: usize = 10;
+/// The most rules that a list holds.
+pub const MOST_RULES: usize = 512;
+/// The longest prefix, in bits.
+pub const LONGEST_PREFIX: u32 = 32;
+/// The largest port.
+pub const LARGEST_PORT: u32 = 65_535;
+/// The largest protocol.
+pub const LARGEST_PROTOCOL: u32 = 255;
+
+/// An address of which the first `length` bits count.
+#[derive(Clone, Copy, Debug)]
+pub struct Prefix {
+    pub address: u32,
+    pub length: u32,
+}
+
+/// The values from `low` to `high`, both ends included.
+#[derive(Clone, Copy, Debug)]
+pub struct Range {
+    pub low: u32,
+    pub high: u32,
+}
+
+/// One rule, good or not.
+#[derive(Clone, Copy, Debug)]
+pub struct Rule {
+    pub source: Prefix,
+    pub destination: Prefix,
+    pub source_port: Range,
+    pub destination_port: Range,
+    pub protocol: Range,
+}
+
+/// Answers whether the list is of a right length and every rule of it good: 1, then 2.
+/// A completed check gives `a`, the number of rules.
+pub fn rule_check(rules: &[u32]) -> Answer {
+    match judge_rules(rules) {
+        Err(refusal) => Answer::refused(refusal),
+        Ok(list) => Answer::completed(list.len() as u64, 0, 0),
+    }
+}
+
+/// The rules of a list that is right, in order; otherwise refusal 1 or, at the lowest bad rule, 2.
+pub fn judge_rules(words: &[u32]) -> Result<Vec<Rule>, Refusal> {
+    if !words.len().is_multiple_of(RULE_WORDS) || words.len() > MOST_RULES * RULE_WORDS {
+        return Err(Refusal::RuleWords);
+    }
+    let mut list = Vec::new();
+    for (number, ten) in words.chunks_exact(RULE_WORDS).enumerate() {
+        let rule = rule_of(ten);
+        if !is_good(&rule) {
+            return Err(Refusal::RuleNotGood { rule: number });
+        }
+        list.push(rule);
+    }
+    Ok(list)
+}
+
+/// The rule that these ten words are.
+pub fn rule_of(ten: &[u32]) -> Rule {
+    Rule {
+        source: Prefix { address: ten[0], length: ten[1] },
+        destination: Prefix { address: ten[2], length: ten[3] },
+        source_port: Range { low: ten[4], high: ten[5] },
+        destination_port: Range { low: ten[6], high: ten[7] },
+        protocol: Range { low: ten[8], high: ten[9] },
+    }
+}
+
+/// Is the rule good, as "Words for rules and headers" has it?
+pub fn is_good(rule: &Rule) -> bool {
+    is_good_prefix(rule.source)
+        && is_good_prefix(rule.destination)
+        && is_good_range(rule.source_port, LARGEST_PORT)
+        && is_good_range(rule.destination_port, LARGEST_PORT)
+        && is_good_range(rule.protocol, LARGEST_PROTOCOL)
+}
+
+/// The length is at most 32, and every address bit past it is zero.
+fn is_good_prefix(prefix: Prefix) -> bool {
+    if prefix.length > LONGEST_PREFIX {
+        return false;
+    }
+    let past = &bits(prefix.address)[prefix.length as usize..];
+    past.iter().all(|&bit| !bit)
+}
+
+/// Low is at most high, and neither is over the largest value of its field.
+fn is_good_range(range: Range, largest: u32) -> bool {
+    range.low <= range.high && range.low <= largest && range.high <= largest
+}

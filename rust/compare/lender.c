@@ -8,16 +8,12 @@
 // has returned, the number of the call, or 0 where there is no such call. The end of the input ends the program with
 // status 0, and whatever goes wrong here ends it with status 2.
 //
-// The kit that compiles this has no C headers, so nothing is included and all that is used is declared.
+// The kit that compiles this has no C headers, so of the C library all that is used is declared here.
 
-typedef unsigned int u32;
-typedef unsigned long u64;
+#include "../../include/wickorchard.h"
 
-// The library. A slice is a pointer and its length; an answer is eight words.
-void wick_rule_check(const u32 *rules, u64 rules_len, u64 *answer);
-void wick_line_all(const u32 *rules, u64 rules_len, const u32 *header, u64 header_len, u32 *out, u64 out_len,
-                   u64 *answer);
-void wick_line_first(const u32 *rules, u64 rules_len, const u32 *header, u64 header_len, u64 *answer);
+typedef wick_word u32;
+typedef wick_count u64;
 
 // The C library, and its numbers on x86-64 Linux.
 int open(const char *path, int flags, ...);

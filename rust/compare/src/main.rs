@@ -34,7 +34,7 @@ const NOT_STARTED: u8 = 2;
 fn main() -> ExitCode {
     let command: Vec<OsString> = env::args_os().skip(1).collect();
     if command.is_empty() {
-        eprintln!("usage: compare COMMAND.., which runs the lender where the arena's path is put after it");
+        eprintln!("usage: compare COMMAND.., the words that start the lender; the arena's path is put after them");
         return ExitCode::from(NOT_STARTED);
     }
     let mut bench = match lender::start(&command) {

@@ -1,0 +1,47 @@
+/* Wickorchard: five-field packet classification, proved.
+ *
+ * A slice is lent as a pointer and the number of its elements. The pointer is never null, not even for no elements, and
+ * is aligned for its type; a slice that is written to overlaps no other that the same call is lent. Beyond that a call
+ * takes any words: it finishes, touches nothing that it was not lent, and on a refusal alters nothing but `answer`.
+ *
+ * Each call writes all eight words of `answer`:
+ *     0 number   0 on success, else the refusal's number
+ *     1 place    where: a rule, a field, or how much room is needed; 0 on success
+ *     2 extra    0 unless the refusal has one; 0 on success
+ *     3 4 5      the call's values a, b, c; 0 on a refusal and where a call has no such value
+ *     6 7        0
+ *
+ * The refusals of these calls, in the order in which they are looked for:
+ *     1   rule words not a multiple of ten, or over 5,120
+ *     2   a rule is not good: place is the lowest such rule
+ *     3   header not five words (place 5), or a port or protocol too large (place is the lowest such field)
+ *     4   the lent output is too short: place is the number of words needed
+ */
+#ifndef WICKORCHARD_H
+#define WICKORCHARD_H
+
+#ifdef __cplusplus
+extern "C" {
+#endif
+
+typedef __UINT32_TYPE__ wick_word;
+typedef __UINT64_TYPE__ wick_count;
+
+/* Is the list good? Refuses with 1, 2. a: the number of rules. */
+void wick_rule_check(const wick_word *rules, wick_count rules_len, wick_count answer[8]);
+
+/* Searches the list line by line for every rule that matches. Refuses with 1, 2, 3, 4. Writes the numbers that match to
+ * the front of `out`, rising; the rest of `out` is as found. a: how many it wrote. */
+void wick_line_all(const wick_word *rules, wick_count rules_len, const wick_word *header, wick_count header_len,
+                   wick_word *out, wick_count out_len, wick_count answer[8]);
+
+/* Searches the list line by line for the lowest rule that matches. Refuses with 1, 2, 3. a: 1 and b: the rule's number;
+ * or a: 0 where none matches. */
+void wick_line_first(const wick_word *rules, wick_count rules_len, const wick_word *header, wick_count header_len,
+                     wick_count answer[8]);
+
+#ifdef __cplusplus
+}
+#endif
+
+#endif

@@ -2,10 +2,13 @@
 pub mod Bools
 pub mod Cases
 pub mod Below
+pub mod Lowest
 pub mod Steps
 pub mod Tables
 pub mod Members
 pub mod Rising
+pub mod Under
 pub mod Counting
 pub mod Filling
 pub mod Seeking
+pub mod Finding

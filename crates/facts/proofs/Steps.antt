@@ -1,9 +1,12 @@
--- One step along a list: what a run has left, and what is kept of a list, by its head.
+-- One step along a list: what a run has left, what a list has from a place on, and what is kept of a list, by its head.
 use Prim.Native.Nat.{ℕ, zero, suc, _+_, _-_, _≤_, _<_}
+use native.Mathlib.Numerals.{add-one}
 use native.Mathlib.Omega.{arith}
 use mathlib.Core.Bool.{Bool, true, false}
 use mathlib.Core.Path.{_≡_}
 use mathlib.Core.List.{List, [], _∷_}
+use lib.ListN.{length, getD, drop, drop-of-length-le}
+use lib.Seq.{drop-cons}
 use Rattle.facts.specs.Lists.{run, keep}
 
 -- while i is below n, what is left of a run up to n is i and what is left after it
@@ -15,6 +18,14 @@ run-step n i l = let e : n - i ≡ suc (n - (i + 1)) = omega arith in rw (e, run
 pub run-end : (n i : ℕ) → n ≤ i → run i (n - i) ≡ []
 unfolding run
 run-end n i l = let e : n - i ≡ 0 = omega arith in rw (e, run)
+
+-- while i is below the length, a list has from i on what stands at i and what it has after it
+pub drop-step : (l : List ℕ) (i : ℕ) → i < length l → drop i l ≡ getD l i 0 ∷ drop (i + 1) l
+drop-step l i h = rw (add-one i) (drop-cons l i 0 h)
+
+-- from its length on, a list has nothing
+pub drop-end : (l : List ℕ) (i : ℕ) → length l ≤ i → drop i l ≡ []
+drop-end l i h = drop-of-length-le l h
 
 -- nothing is kept of nothing
 pub keep-none : (p : ℕ → Bool) {l : List ℕ} → l ≡ [] → keep p l ≡ []

@@ -4,12 +4,13 @@
 --   keep p l       the numbers of l of which p holds, in l's order, each as often as it stands there
 --   has l y        y stands in l
 --   rises a l      l rises strictly, and its first number is at least a; true of the empty list
+--   allUnder n l   every number of l is below n; true of the empty list
 --   written new found    lent words that held found, once new was written from their front on: the rest is as found
 use Prim.Native.Nat.{ℕ, zero, suc, _+_}
 use mathlib.Core.Bool.{Bool, true, false, cond, _&&_, _||_}
 use mathlib.Core.List.{List, [], _∷_, _++_}
 use lib.ListN.{length, drop}
-use lib.Dec.{leb, eqb}
+use lib.Dec.{leb, ltb, eqb}
 
 unfoldable pub run : ℕ → ℕ → List ℕ
 run i zero = []
@@ -30,6 +31,10 @@ has (x ∷ xs) y = eqb x y || has xs y
 unfoldable pub rises : ℕ → List ℕ → Bool
 rises a [] = true
 rises a (x ∷ xs) = leb a x && rises (x + 1) xs
+
+unfoldable pub allUnder : ℕ → List ℕ → Bool
+allUnder n [] = true
+allUnder n (x ∷ xs) = ltb x n && allUnder n xs
 
 unfoldable pub written : List ℕ → List ℕ → List ℕ
 written new found = new ++ drop (length new) found

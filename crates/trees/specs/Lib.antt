@@ -1,0 +1,5 @@
+-- Trees: their words, *spelt*, and the walk of a header.
+pub mod Words
+pub mod Spelt
+pub mod Walk
+pub mod Steps

@@ -1,11 +1,11 @@
--- Two numbers, taken by cases: below, same or above; at most or over.
+-- Two numbers, taken by cases: below, same or above; at most or over; same or not.
 use Prim.Native.Nat.{ℕ, _≤_, _<_}
 use native.Mathlib.Omega.{arith}
 use mathlib.Core.Bool.{true, false}
 use mathlib.Core.Path.{_≡_}
 use mathlib.Core.Logic.{_⊎_, inl, inr}
-use lib.Dec.{leb, ltb}
-use borrow.Author.Tests.{ltb-true, ltb-false, leb-true, leb-false}
+use lib.Dec.{leb, ltb, eqb}
+use borrow.Author.Tests.{ltb-true, ltb-false, leb-true, leb-false, eqb-true, eqb-false}
 use Rattle.facts.proofs.Bools.{sure}
 
 pub data Order (a b : ℕ) : Type 0 where
@@ -33,3 +33,11 @@ split a b = go (sure (leb a b))
     go : (leb a b ≡ true) ⊎ (leb a b ≡ false) → Split a b
     go (inl p) = atMost (leb-true a b p)
     go (inr p) = over (leb-false a b p)
+
+-- two numbers are the same, or they are not
+pub same-or-not : (a b : ℕ) → (a ≡ b) ⊎ (a ≡ b → ⊥)
+same-or-not a b = go (sure (eqb a b))
+  where
+    go : (eqb a b ≡ true) ⊎ (eqb a b ≡ false) → (a ≡ b) ⊎ (a ≡ b → ⊥)
+    go (inl p) = inl (eqb-true a b p)
+    go (inr p) = inr (eqb-false a b p)

@@ -2,38 +2,33 @@
 use Prim.Native.Nat.{ℕ, zero, _≤_, _<_, max}
 use native.Mathlib.Nat.{le-max-left, le-max-right, max-le}
 use native.Mathlib.Omega.{arith}
-use mathlib.Core.Bool.{Bool, true, _&&_}
+use mathlib.Core.Bool.{Bool, true}
 use mathlib.Core.Path.{_≡_}
 use mathlib.Core.Logic.{_↔_}
 use mathlib.Core.List.{List}
 use lib.ListN.{length, getD}
-use lib.Dec.{leb}
-use borrow.Author.Tests.{leb-true, le-leb}
 use Rattle.facts.specs.Below.{allBelow}
 use Rattle.facts.specs.Lists.{tab}
-use Rattle.facts.proofs.Bools.{both, join}
 use Rattle.facts.proofs.Below.{all-below-at, all-below-of}
 use Rattle.facts.proofs.Tables.{length-tab, getD-tab}
+use Rattle.fields.specs.Ranges.{rangesMeet}
 use Rattle.fields.specs.Boxes.{lowOf, highOf, Inside, Full, meets}
+use Rattle.fields.proofs.Ranges.{ranges-meet-iff}
 
 -- in each field a begins no later than b ends, and b no later than a ends
-pub Overlap : ℕ → List (List ℕ) → List (List ℕ) → Type 0
+abbrev pub Overlap : ℕ → List (List ℕ) → List (List ℕ) → Type 0
 Overlap n a b = (f : ℕ) → f < n → (lowOf a f ≤ highOf b f) × (lowOf b f ≤ highOf a f)
 
-overlap-iff : (n : ℕ) (a b : List (List ℕ)) → (meets n a b ≡ true) ↔ Overlap n a b
-unfolding meets Overlap
-overlap-iff n a b = (λ e f l. to f (all-below-at n test e f l), λ o. all-below-of n test (λ f l. of f (o f l)))
+-- two boxes meet exactly where they overlap in each field
+pub overlap-iff : (n : ℕ) (a b : List (List ℕ)) → (meets n a b ≡ true) ↔ Overlap n a b
+unfolding meets
+overlap-iff n a b = (
+  λ e f l. ranges-meet-iff _ _ _ _ .0 (all-below-at n test e f l),
+  λ o. all-below-of n test (λ f l. ranges-meet-iff _ _ _ _ .1 (o f l)),
+)
   where
     test : ℕ → Bool
-    test f = leb (lowOf a f) (highOf b f) && leb (lowOf b f) (highOf a f)
-
-    to : (f : ℕ) → test f ≡ true → (lowOf a f ≤ highOf b f) × (lowOf b f ≤ highOf a f)
-    to f e =
-        let t = both (leb (lowOf a f) (highOf b f)) (leb (lowOf b f) (highOf a f)) e in
-        (leb-true _ _ (t .0), leb-true _ _ (t .1))
-
-    of : (f : ℕ) → (lowOf a f ≤ highOf b f) × (lowOf b f ≤ highOf a f) → test f ≡ true
-    of f o = join (le-leb _ _ (o .0)) (le-leb _ _ (o .1))
+    test f = rangesMeet (lowOf a f) (highOf a f) (lowOf b f) (highOf b f)
 
 -- the point of the greater lows
 corner : ℕ → List (List ℕ) → List (List ℕ) → List ℕ
@@ -45,11 +40,9 @@ module _ (n : ℕ) (a b : List (List ℕ)) (fullA : Full n a) (fullB : Full n b)
   at f l = getD-tab n (λ f. max (lowOf a f) (lowOf b f)) f l
 
   corner-in-a : Inside n a (corner n a b)
-  unfolding Overlap
   corner-in-a f l = rw (at f l) (le-max-left _ _, max-le (fullA f l) (o f l .1))
 
   corner-in-b : Inside n b (corner n a b)
-  unfolding Overlap
   corner-in-b f l = rw (at f l) (le-max-right _ _, max-le (o f l .0) (fullB f l))
 
 -- a point of two boxes of n fields
@@ -62,7 +55,7 @@ pub record CommonPoint (n : ℕ) (a b : List (List ℕ)) : Type 0 where
 -- two boxes that are not empty meet exactly where they have a common point
 pub meets-iff-common-point :
     (n : ℕ) (a b : List (List ℕ)) → Full n a → Full n b → (meets n a b ≡ true) ↔ CommonPoint n a b
-unfolding Overlap corner
+unfolding corner
 meets-iff-common-point n a b fullA fullB = (
   λ e.
       let o = overlap-iff n a b .0 e in

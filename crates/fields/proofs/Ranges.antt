@@ -6,7 +6,7 @@ use mathlib.Core.Logic.{_↔_}
 use lib.Dec.{leb}
 use borrow.Author.Tests.{leb-true, le-leb}
 use Rattle.facts.proofs.Bools.{both, join}
-use Rattle.fields.specs.Ranges.{rangeGood, rangeHolds}
+use Rattle.fields.specs.Ranges.{rangeGood, rangeHolds, rangesMeet}
 
 -- a range holds exactly the words between its ends
 pub holds-iff-between : (low high x : ℕ) → (rangeHolds low high x ≡ true) ↔ ((low ≤ x) × (x ≤ high))
@@ -20,3 +20,11 @@ holds-iff-between low high x = (
 pub range-not-empty : (low high top : ℕ) → rangeGood low high top ≡ true → low ≤ high
 unfolding rangeGood
 range-not-empty low high top e = leb-true low high (both (leb low high) (leb high top) e .0)
+
+-- two ranges meet exactly where each begins no later than the other ends
+pub ranges-meet-iff : (low high from to : ℕ) → (rangesMeet low high from to ≡ true) ↔ ((low ≤ to) × (from ≤ high))
+unfolding rangesMeet
+ranges-meet-iff low high from to = (
+  λ e. let t = both (leb low to) (leb from high) e in (leb-true low to (t .0), leb-true from high (t .1)),
+  λ h. join (le-leb low to (h .0)) (le-leb from high (h .1)),
+)

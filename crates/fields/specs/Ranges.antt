@@ -1,6 +1,8 @@
 -- Ranges: a low and a high end. Definitions only.
 --   rangeGood low high top    low is at most high, and high at most top
 --   rangeHolds low high x     x lies between the ends, both included
+--   rangesMeet low high from to    the range from low to high begins no later than the one from `from` to `to` ends,
+--                                  and that one no later than the first ends
 use Prim.Native.Nat.{ℕ}
 use mathlib.Core.Bool.{Bool, _&&_}
 use lib.Dec.{leb}
@@ -10,3 +12,6 @@ rangeGood low high top = leb low high && leb high top
 
 unfoldable pub rangeHolds : ℕ → ℕ → ℕ → Bool
 rangeHolds low high x = leb low x && leb x high
+
+unfoldable pub rangesMeet : ℕ → ℕ → ℕ → ℕ → Bool
+rangesMeet low high from to = leb low to && leb from high

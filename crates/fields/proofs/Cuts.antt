@@ -30,8 +30,8 @@ module _ (b : List (List ℕ)) (f v : ℕ) where
       sym (fails (divides b f v) (λ e. omega (arith, divides-iff .0 e .1)))
 
   -- a field in which a box is divided is one of the box's
-  pub divided-there : divides b f v ≡ true → f < length b
-  divided-there e = go (split (length b) f)
+  pub divided-there : {n : ℕ} → length b ≡ n → divides b f v ≡ true → f < n
+  divided-there {n} size e = rw (← size) (go (split (length b) f))
     where
       go : Split (length b) f → f < length b
       go (atMost l) = clash e (sym (past-not-divided l))

@@ -1,15 +1,16 @@
 -- Prefixes of addresses of any width: the tests one by one, and that a good prefix is its range.
 use Prim.Native.Nat.{ℕ, suc, _+_, _-_, _*_, _/_, _%_, _^_, _≤_, _<_}
-use native.Mathlib.Nat.{div-add-mod', mod-lt, mod-eq-of-lt, div-eq-of-lt-le}
+use native.Mathlib.Nat.{div-add-mod', mod-lt, mod-eq-of-lt, div-eq-of-lt-le, one-mul}
 use native.Mathlib.Omega.{arith}
 use mathlib.Core.Bool.{true, false}
 use mathlib.Core.Path.{_≡_, refl, sym, ap, _∙_}
 use mathlib.Core.Logic.{_↔_}
 use lib.Dec.{leb, eqb}
-use lib.Pow.{pow-pos}
+use lib.Pow.{pow-pos, pow-mono, shl-exact}
 use borrow.Author.Tests.{leb-true, le-leb, lt-leb, eqb-true, eq-eqb}
 use Rattle.facts.proofs.Bools.{both, join, same-test}
-use Rattle.fields.specs.Prefixes.{span, prefixGood, prefixAgrees}
+use Rattle.fields.specs.Ranges.{rangesMeet}
+use Rattle.fields.specs.Prefixes.{span, prefixGood, prefixAgrees, prefixMeets}
 
 -- ---- the tests, as the code makes them
 
@@ -51,13 +52,43 @@ moved-back-good w address len l p k q u =
     of : eqb (address % s) 0 ≡ true → eqb (address / s * s) address ≡ true
     of e = eq-eqb (address / s * s) address (omega (arith, div-add-mod' address s, eqb-true (address % s) 0 e))
 
+-- ---- how many words share a prefix
+
+-- at least one word has the first bits
+pub span-pos : (w len : ℕ) → 0 < span w len
+unfolding span
+span-pos w len = pow-pos (w - len)
+
+-- no more words share a prefix than there are
+pub span-at-most : (w len : ℕ) → span w len ≤ 2 ^ w
+unfolding span
+span-at-most w len = pow-mono (omega arith)
+
+-- past the width, one word has the first bits
+pub long-span : (w len : ℕ) → w < len → 1 ≡ span w len
+unfolding span
+long-span w len l = let e : w - len ≡ 0 = omega arith in rw e
+
+-- within the width, the span is 1 shifted by the bits that are left
+pub shifted-span : (w len : ℕ) {k : ℕ} → w < 64 → k ≡ w - len → 1 * 2 ^ k % 2 ^ 64 ≡ span w len
+unfolding span
+shifted-span w len {k} u e = shl-exact 1 k 64 (omega arith) (omega arith) ∙ one-mul (2 ^ k) ∙ ap (λ (j : ℕ). 2 ^ j) e
+
+-- a range that ends before the address does not meet it
+pub ends-before : (w address len from to : ℕ) → to < address → false ≡ prefixMeets w address len from to
+unfolding prefixMeets rangesMeet
+ends-before w address len from to l = rw (lt-leb address to l)
+
+-- any other meets it exactly where it begins no later than the prefix ends
+pub end-decides :
+    (w address len from to : ℕ) {a s g : ℕ} → address ≤ to → g ≡ from → a ≡ address → s ≡ span w len →
+    leb g (a + s - 1) ≡ prefixMeets w address len from to
+unfolding prefixMeets rangesMeet
+end-decides w address len from to l p q r = rw (p, q, r, le-leb address to l)
+
 -- ---- a good prefix is its range
 
 module _ (w address len : ℕ) (good : prefixGood w address len ≡ true) where
-  s-pos : 0 < span w len
-  unfolding span
-  s-pos = pow-pos (w - len)
-
   tests : (leb len w ≡ true) × (eqb (address % span w len) 0 ≡ true)
   unfolding prefixGood
   tests = both (leb len w) (eqb (address % span w len) 0) good
@@ -69,7 +100,7 @@ module _ (w address len : ℕ) (good : prefixGood w address len ≡ true) where
   unfolding prefixAgrees
   agrees-in-range x e = (
     omega (arith, div-add-mod' x (span w len), whole, q),
-    omega (arith, div-add-mod' x (span w len), whole, q, mod-lt x s-pos),
+    omega (arith, div-add-mod' x (span w len), whole, q, mod-lt x (span-pos w len)),
   )
     where
       q : address / span w len * span w len ≡ x / span w len * span w len
@@ -83,7 +114,7 @@ module _ (w address len : ℕ) (good : prefixGood w address len ≡ true) where
   range-agrees x h = join (tests .0) (eq-eqb (address / span w len) (x / span w len) (sym q))
     where
       q : x / span w len ≡ address / span w len
-      q = div-eq-of-lt-le (span w len) (omega (arith, whole)) (omega (arith, whole, s-pos))
+      q = div-eq-of-lt-le (span w len) (omega (arith, whole)) (omega (arith, whole, span-pos w len))
 
   -- a good prefix agrees with exactly the words from its address up to address + 2^(w - len) - 1
   pub prefix-is-range :
@@ -92,4 +123,4 @@ module _ (w address len : ℕ) (good : prefixGood w address len ≡ true) where
 
   -- the range of a good prefix is not empty
   pub prefix-not-empty : address ≤ address + span w len - 1
-  prefix-not-empty = omega (arith, s-pos)
+  prefix-not-empty = omega (arith, span-pos w len)

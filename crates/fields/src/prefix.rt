@@ -2,7 +2,7 @@
 ghost use Prim.Native.Nat.{_/_, _≤_};
 ghost use mathlib.Core.Path.{_≡_};
 ghost use Rattle.fields.specs.Words.{addressBits};
-ghost use Rattle.fields.specs.Prefixes.{span, prefixGood, prefixAgrees};
+ghost use Rattle.fields.specs.Prefixes.{span, prefixGood, prefixAgrees, prefixMeets};
 
 // The number of an address's bits.
 pub const ADDRESS_BITS: u32 = 32;
@@ -26,6 +26,26 @@ pub fn prefix_agrees(address: u32, len: u32, word: u32) -> bool
         return false;
     }
     first_bits(address, len) == first_bits(word, len)
+}
+
+// Whether the range that begins at the address, and has as many words as share its first `len` bits, meets another.
+pub fn prefix_meets(address: u32, len: u32, from: u32, to: u32) -> bool
+    ensures { λ r. ⌜ r ≡ prefixMeets addressBits address len from to ⌝ }
+{
+    if to < address {
+        return false;
+    }
+    wide(from) <= wide(address) + span_of(len) - 1
+}
+
+// How many words share their first `len` bits; one where the length is that of an address, or over it.
+fn span_of(len: u32) -> u64
+    ensures { λ r. ⌜ r ≡ span addressBits len ⌝ }
+{
+    if ADDRESS_BITS < len {
+        return 1;
+    }
+    1 << wide(ADDRESS_BITS - len)
 }
 
 // The first `len` bits of a word. It is shifted as a u64, so that a length of 0 may shift it by its whole width.

@@ -1,6 +1,6 @@
 // Ranges: a low and a high end, both included.
 ghost use mathlib.Core.Path.{_≡_};
-ghost use Rattle.fields.specs.Ranges.{rangeGood, rangeHolds};
+ghost use Rattle.fields.specs.Ranges.{rangeGood, rangeHolds, rangesMeet};
 
 // Whether low is at most high, and high at most the field's top.
 pub fn range_good(low: u32, high: u32, top: u32) -> bool
@@ -20,4 +20,14 @@ pub fn range_holds(low: u32, high: u32, word: u32) -> bool
         return false;
     }
     word <= high
+}
+
+// Whether two ranges meet: each begins no later than the other ends.
+pub fn ranges_meet(low: u32, high: u32, from: u32, to: u32) -> bool
+    ensures { λ r. ⌜ r ≡ rangesMeet low high from to ⌝ }
+{
+    if to < low {
+        return false;
+    }
+    from <= high
 }

@@ -1,6 +1,9 @@
--- Laws of lists of rules: what is good, what a rule means, what the searches say and list, and that promises are exact.
+-- Laws of lists of rules: what is good, what a rule means, what entries lack, what the searches say and list, and that
+-- promises are exact.
 pub mod Lists
 pub mod Meaning
+pub mod There
+pub mod Lacks
 pub mod Listing
 pub mod Searches
 pub mod Lent

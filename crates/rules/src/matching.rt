@@ -4,7 +4,9 @@ use crate::words::DESTINATION_PORT;
 use crate::words::PROTOCOL;
 use crate::words::SOURCE;
 use crate::words::SOURCE_PORT;
+use crate::words::rule_there;
 use crate::words::word_of;
+use fields::header::FIELDS;
 use fields::prefix::prefix_agrees;
 use fields::range::range_holds;
 ghost use Prim.Native.Nat.{_+_, _<_};
@@ -12,7 +14,20 @@ ghost use mathlib.Core.Path.{_≡_};
 ghost use lib.ListN.{length};
 ghost use Rattle.fields.specs.Words.{fieldCount};
 ghost use Rattle.rules.specs.Words.{ruleWords, ruleCount, prefix, range};
-ghost use Rattle.rules.specs.Matching.{fieldMatches, matches};
+ghost use Rattle.rules.specs.Matching.{fieldMatches, matches, ruleMatches};
+
+// Whether rule `r` is wholly lent, the header has its words, and the rule matches it.
+pub fn rule_matches(rules: &[u32], header: &[u32], r: usize) -> bool
+    ensures { λ m. ⌜ m ≡ ruleMatches (now (rules .entry)) (now (header .entry)) r ⌝ }
+{
+    if !rule_there(rules, r) {
+        return false;
+    }
+    if header.len() != FIELDS {
+        return false;
+    }
+    matches(rules, header, r)
+}
 
 // Whether rule `r` matches the header, field by field.
 pub(crate) fn matches(rules: &[u32], header: &[u32], r: usize) -> bool

@@ -1,7 +1,7 @@
 // The words of a list of rules.
 ghost use Prim.Native.Nat.{_<_};
 ghost use mathlib.Core.Path.{_≡_};
-ghost use Rattle.rules.specs.Words.{ruleWords, ruleCount, wordOf};
+ghost use Rattle.rules.specs.Words.{ruleWords, ruleCount, ruleThere, wordOf};
 
 // The words of a rule.
 pub const RULE_WORDS: usize = 10;
@@ -19,6 +19,13 @@ pub const SOURCE_PORT: usize = 4;
 pub const DESTINATION_PORT: usize = 6;
 
 pub const PROTOCOL: usize = 8;
+
+// Whether rule `r` is wholly lent.
+pub fn rule_there(rules: &[u32], r: usize) -> bool
+    ensures { λ t. ⌜ t ≡ ruleThere (now (rules .entry)) r ⌝ }
+{
+    r < rules.len() / RULE_WORDS
+}
 
 // Word `j` of rule `r`.
 pub(crate) fn word_of(rules: &[u32], r: usize, j: usize) -> u32

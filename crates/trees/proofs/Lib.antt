@@ -1,4 +1,6 @@
--- Laws of trees: their sizes, *spelt*, and the walk.
+-- Laws of trees: their sizes, *spelt*, the walk, and the search.
 pub mod Sizes
 pub mod Spelling
 pub mod Walking
+pub mod Entries
+pub mod Reaching

@@ -1,0 +1,76 @@
+-- `trees::search::first_of` meets its contract. The invariant: no entry before this one matches. Assumes nothing.
+use Prim.Native.Nat.{_≤_, _-_}
+use native.Mathlib.Omega.{arith}
+use mathlib.Core.Path.{_≡_, _∙_}
+use lib.ListN.{length, drop}
+use borrow.Author.Needs.{needs}
+use Rattle.facts.proofs.Steps.{drop-step, drop-end}
+use Rattle.rules.specs.Matching.{matches}
+use Rattle.trees.proofs.Entries.{compared, Looking, looking-first, looking-step, first-is, first-none}
+use Rattle.trees.proofs.search.first_of.Statement.{statement}
+use Rattle.trees.proofs.search.first_of.Tie as tie
+
+abbrev Inv-loop : tie.InvT-loop
+Inv-loop rules header leaf visited i₀ i = (i ≤ length leaf) × Looking (matches rules header) leaf (drop i leaf) i
+
+abbrev μ-loop : tie.MeasureT-loop
+μ-loop rules header leaf visited i₀ i = length leaf - i
+
+loop-holds : tie.Need-loop-holds Inv-loop μ-loop
+loop-holds c = (omega arith, looking-first _ _)
+
+mul-wide : tie.Need-mul-wide Inv-loop μ-loop
+mul-wide c = search needs
+
+shared-slice-read-wide : tie.Need-shared-slice-read-wide Inv-loop μ-loop
+shared-slice-read-wide c = omega arith
+
+wide-requires : tie.Need-wide-requires Inv-loop μ-loop
+wide-requires c κs = search needs
+
+rule-matches-requires : tie.Need-rule-matches-requires Inv-loop μ-loop
+rule-matches-requires c κs = search needs
+
+add-t12 : tie.Need-add-t12 Inv-loop μ-loop
+add-t12 c = omega arith
+
+returns : tie.Need-returns Inv-loop μ-loop
+returns c =
+    let h = c .before .before .before .before .before in
+    let turn = c .before .before .before .before .loop-test .taken in
+    let said = compared (h .before .before .before .before .pre) turn (c .before .before .wide .ensures) (c .before .rule-matches .ensures) in
+    first-is _ (h .loop .inv .1) (drop-step _ (h .loop .i) turn) (c .before .before .wide .ensures) (said ∙ c .if1 .taken)
+
+add-i : tie.Need-add-i Inv-loop μ-loop
+add-i c = omega arith
+
+loop-less : tie.Need-loop-less Inv-loop μ-loop
+loop-less c = omega arith
+
+loop-again : tie.Need-loop-again Inv-loop μ-loop
+loop-again c =
+    let h = c .before .before .before .before .before in
+    let turn = c .before .before .before .before .loop-test .taken in
+    let said = compared (h .before .before .before .before .pre) turn (c .before .before .wide .ensures) (c .before .rule-matches .ensures) in
+    (omega arith, looking-step (h .loop .inv .1) (drop-step _ (h .loop .i) turn) (said ∙ c .if1 .left))
+
+returns-2 : tie.Need-returns-2 Inv-loop μ-loop
+returns-2 c = first-none _ (c .before .loop .inv .1) (drop-end _ _ (c .loop-test .left)) (omega arith)
+
+pub first-of-spec : {M : Type 1} → statement M
+first-of-spec =
+    tie.close
+    (tie.spec
+    Inv-loop
+    μ-loop
+    loop-holds
+    mul-wide
+    shared-slice-read-wide
+    wide-requires
+    rule-matches-requires
+    add-t12
+    returns
+    add-i
+    loop-less
+    loop-again
+    returns-2)

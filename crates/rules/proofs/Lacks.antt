@@ -32,7 +32,8 @@ module _ (rs l : List ℕ) (b : List (List ℕ)) where
   -- ---- what they say
 
   -- a rule is lacking exactly where its box meets b and its number is not among the entries
-  pub lacking-iff : (r : ℕ) → (lacking rs l b r ≡ true) ↔ ((meets fieldCount (ruleBox rs r) b ≡ true) × (has l r ≡ false))
+  pub lacking-iff :
+      (r : ℕ) → (lacking rs l b r ≡ true) ↔ ((meets fieldCount (ruleBox rs r) b ≡ true) × (has l r ≡ false))
   unfolding lacking
   lacking-iff r = (
     λ e. let t = both (meets fieldCount (ruleBox rs r) b) (not (has l r)) e in (t .0, not-true (has l r) (t .1)),

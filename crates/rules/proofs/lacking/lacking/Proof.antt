@@ -16,7 +16,9 @@ stands-in-requires : tie.Need-stands-in-requires
 stands-in-requires c κs = search needs
 
 returns-2 : tie.Need-returns-2
-returns-2 c = entries-decide _ _ _ _ (held (c .before .before .box-meets .ensures) (c .before .if1 .left)) (c .stands-in .ensures)
+returns-2 c =
+    entries-decide _ _ _ _ (held (c .before .before .box-meets .ensures) (c .before .if1 .left))
+    (c .stands-in .ensures)
 
 pub lacking-spec : {M : Type 1} → statement M
 lacking-spec = tie.close (tie.spec box-meets-requires returns stands-in-requires returns-2)

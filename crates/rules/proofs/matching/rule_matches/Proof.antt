@@ -18,7 +18,8 @@ returns-2 : tie.Need-returns-2
 returns-2 c = not-five _ _ _ (held (c .before .before .rule-there .ensures) (c .before .if1 .left)) (c .if2 .taken)
 
 matches-requires : tie.Need-matches-requires
-matches-requires c κs = (ltb-true _ _ (held (c .before .before .rule-there .ensures) (c .before .if1 .left)), c .if2 .left)
+matches-requires c κs =
+    (ltb-true _ _ (held (c .before .before .rule-there .ensures) (c .before .if1 .left)), c .if2 .left)
 
 returns-3 : tie.Need-returns-3
 returns-3 c =

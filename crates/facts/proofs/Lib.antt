@@ -12,3 +12,4 @@ pub mod Counting
 pub mod Filling
 pub mod Seeking
 pub mod Finding
+pub mod Climbing

@@ -1,5 +1,6 @@
 -- Trees: their words, *spelt*, the walk of a header, and the promises of the tree search.
 pub mod Words
+pub mod Node
 pub mod Spelt
 pub mod Walk
 pub mod Search

@@ -1,7 +1,8 @@
 // The words of a tree.
 ghost use Prim.Native.Nat.{_<_};
 ghost use mathlib.Core.Path.{_≡_};
-ghost use Rattle.trees.specs.Words.{nodeWords, nodeCount};
+ghost use Rattle.trees.specs.Words.{nodeWords, nodeCount, valueOf};
+ghost use Rattle.trees.specs.Node.{nodeAt};
 ghost use Rattle.trees.specs.Steps.{WordRead};
 
 // The words of a node.
@@ -25,6 +26,49 @@ pub const CHILD: usize = 2;
 pub const START: usize = 1;
 
 pub const COUNT: usize = 2;
+
+// What stands at a node: none is there; a leaf; or a cut.
+pub enum Node {
+    Missing,
+    Leaf {
+        start: usize,
+        count: usize,
+    },
+    Cut {
+        field: usize,
+        value: u32,
+        child: usize,
+    },
+}
+
+// Node `i` by its words. A first word that is no field is taken for a leaf's mark.
+pub fn node_at(nodes: &[u32], i: usize) -> Node
+    ensures { λ r. ⌜ r ≡ nodeAt (now (nodes .entry)) i ⌝ }
+{
+    if nodes.len() / NODE_WORDS <= i {
+        return Node::Missing;
+    }
+    let first = node_word(nodes, i, FIRST);
+    if LEAF_MARK <= first {
+        return Node::Leaf {
+            start: node_word(nodes, i, START),
+            count: node_word(nodes, i, COUNT),
+        };
+    }
+    Node::Cut {
+        field: first,
+        value: value_word(nodes, i),
+        child: node_word(nodes, i, CHILD),
+    }
+}
+
+// The value of cut `i`.
+fn value_word(nodes: &[u32], i: usize) -> u32
+    requires { ⌜ i < nodeCount (now nodes) ⌝ }
+    ensures { λ w. ⌜ w ≡ valueOf (now (nodes .entry)) i ⌝ }
+{
+    nodes[i * NODE_WORDS + VALUE]
+}
 
 // Word `j` of node `i`, as a place or a count.
 pub(crate) fn node_word(nodes: &[u32], i: usize, j: usize) -> usize

@@ -1,0 +1,24 @@
+-- Laws of the tree check: the check of a part, node by node, and what it accepts.
+pub mod NotLack
+pub mod Parts
+pub mod Looking
+pub mod Leaves
+pub mod Joining
+pub mod Checks
+pub mod Built
+pub mod Formed
+pub mod Ways
+pub mod Bounds
+pub mod Walks
+pub mod Lacks
+pub mod FirstLack
+pub mod Comes
+pub mod Agreement
+pub mod Stages
+pub mod Accepts
+pub mod Figures
+pub mod Searches
+pub mod OneLack
+pub mod Eight
+pub mod Answers
+pub mod Unique

@@ -1,0 +1,90 @@
+-- The stages of the check: it accepts, or says that a leaf lacks a rule, exactly where it reaches the root's part and
+-- accepts that, and the part's lack decides.
+use Prim.Native.Nat.{ℕ}
+use mathlib.Core.Path.{_≡_, refl, ap, _∙_}
+use mathlib.Core.List.{List}
+use lib.Dec.{eqb}
+use borrow.Author.Tests.{eqb-true, eq-eqb}
+use Rattle.refusals.specs.declared.Refusal.{Refusal}
+use Rattle.refusals.specs.declared.Refusal.the-variants.{NodeWrong}
+use Rattle.refusals.specs.declared.Verdict.{Verdict}
+use Rattle.refusals.specs.declared.Verdict.the-variants as verdict
+use Rattle.refusals.specs.Order.{refuseUnless}
+use Rattle.refusals.proofs.Order.{holds-fine, fine-iff-holds, then-fine}
+use Rattle.fields.specs.Boxes.{rootBox}
+use Rattle.rules.specs.Words.{ruleCount}
+use Rattle.rules.specs.Good.{listVerdict}
+use Rattle.rules.proofs.Lists.{fine-iff-good}
+use Rattle.trees.specs.Words.{nodeCount, sizeVerdict}
+use Rattle.trees.specs.Spelt.{Spelt, speltVerdict}
+use Rattle.trees.proofs.Spelling.{spelt-fine-iff}
+use Rattle.tree_check.specs.declared.preorder.Lack.{Lack}
+use Rattle.tree_check.specs.declared.preorder.Part.{Part}
+use Rattle.tree_check.specs.declared.preorder.Part.the-variants.{Refused, Good}
+use Rattle.tree_check.specs.Whole.{mostCuts, WellFormed}
+use Rattle.tree_check.specs.TreeCheck.{rootPart, lackVerdict, partVerdict, checkVerdict}
+use Rattle.tree_check.proofs.NotLack.{NotLack, Last, not-last, then-last}
+use Rattle.tree_check.proofs.NotLack.{unless-no-lack, list-no-lack, sizes-no-lack, spelt-no-lack}
+use Rattle.tree_check.proofs.Built.{built, part-not-lack}
+use Rattle.tree_check.proofs.Formed.{whole-of-built, accepts-of-whole}
+use Rattle.tree_check.proofs.Comes.{Formed}
+
+-- the stages before the last are fine, and the root's part is accepted, with these figures and this lack
+pub record Reached (rs nodes pool : List ℕ) (c l : ℕ) (y : Lack) : Type 0 where
+  pub list : listVerdict rs ≡ verdict.Fine
+  pub sizes : sizeVerdict nodes pool ≡ verdict.Fine
+  pub spelt : Spelt (ruleCount rs) nodes pool
+  pub root : rootPart rs nodes pool ≡ Good (nodeCount nodes) c l y
+
+part-last :
+    (m : ℕ) (p : Part) {u : Verdict} → ((why : Refusal) → p ≡ Refused why → NotLack why) → Last u →
+    partVerdict m p ≡ u → (c : ℕ) × (l : ℕ) × (y : Lack) × (p ≡ Good m c l y) × (lackVerdict y ≡ u)
+part-last m (Refused why) n l e = not-last (n why refl) l e
+part-last m (Good next c l' y) n l e =
+    let t = then-last (refuseUnless (eqb next m) (NodeWrong next)) (unless-no-lack _ (NodeWrong next) tt) l e in
+    let q : next ≡ m = eqb-true next m (fine-iff-holds _ _ .0 (t .0)) in
+    (c, l', y, ap (λ (k : ℕ). Good k c l' y) q, t .1)
+
+module _ (rs nodes pool : List ℕ) where
+  -- where the check gives what only its last stage gives, it reached the root's part, whose lack decides
+  pub reached :
+      {u : Verdict} → Last u → checkVerdict rs nodes pool ≡ u →
+      (c : ℕ) × (l : ℕ) × (y : Lack) × Reached rs nodes pool c l y × (lackVerdict y ≡ u)
+  unfolding checkVerdict rootPart
+  reached last e =
+      let n = ruleCount rs in
+      let s = then-last (listVerdict rs) (list-no-lack rs) last e in
+      let t = then-last (sizeVerdict nodes pool) (sizes-no-lack nodes pool) last (s .1) in
+      let u = then-last (speltVerdict n nodes pool) (spelt-no-lack n nodes pool) last (t .1) in
+      let whys = part-not-lack rs nodes pool mostCuts rootBox 0 in
+      let v = part-last (nodeCount nodes) (rootPart rs nodes pool) whys last (u .1) in
+      let spelt = spelt-fine-iff n nodes pool .0 (u .0) in
+      (v .0, v .1, v .2, record { list = s .0; sizes = t .0; spelt = spelt; root = v .3 }, v .4)
+
+module _ {rs nodes pool : List ℕ} {c l : ℕ} {y : Lack} (t : Reached rs nodes pool c l y) where
+  -- where the check reaches the root's part, the part's lack decides
+  pub lack-decides : checkVerdict rs nodes pool ≡ lackVerdict y
+  unfolding checkVerdict
+  lack-decides =
+      then-fine _ (t .list) ∙ then-fine _ (t .sizes) ∙
+      then-fine _ (spelt-fine-iff (ruleCount rs) nodes pool .1 (t .spelt)) ∙
+      ap (partVerdict (nodeCount nodes)) (t .root) ∙
+      then-fine _ (holds-fine _ (eq-eqb (nodeCount nodes) (nodeCount nodes) refl))
+
+  -- the list is then good, and the root's part is built
+  pub formed : Formed rs nodes pool c l y
+  unfolding rootPart
+  formed = record { good = fine-iff-good rs .0 (t .list); spelt = t .spelt; root = built rs nodes pool (t .root) }
+
+  -- and the tree is well formed
+  pub well-formed : WellFormed (ruleCount rs) nodes pool
+  well-formed = record { spelt = t .spelt; preorder = whole-of-built (t .spelt .first) (formed .root) }
+
+-- a well-formed tree, its sizes and its list being fine, has its root's part reached
+pub reaches :
+    (rs nodes pool : List ℕ) → listVerdict rs ≡ verdict.Fine → sizeVerdict nodes pool ≡ verdict.Fine →
+    WellFormed (ruleCount rs) nodes pool → (c : ℕ) × (l : ℕ) × (y : Lack) × Reached rs nodes pool c l y
+unfolding rootPart
+reaches rs nodes pool list sizes w =
+    let a = accepts-of-whole rs (w .preorder) in
+    (a .cuts, a .longest, a .lack, record { list = list; sizes = sizes; spelt = w .spelt; root = a .says })

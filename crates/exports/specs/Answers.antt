@@ -9,6 +9,9 @@ use Rattle.refusals.specs.Paper.{Paper, refusal, success}
 use Rattle.rules.specs.RuleCheck.{ruleCheck}
 use Rattle.rules.specs.LineAll.{lineAll, lineAllWords}
 use Rattle.rules.specs.LineFirst.{lineFirst}
+use Rattle.trees.specs.TreeAll.{treeAll, treeAllWords}
+use Rattle.trees.specs.TreeFirst.{treeFirst}
+use Rattle.tree_check.specs.TreeCheck.{treeCheck}
 
 abbrev pub eight : Paper → List ℕ
 eight (refusal number place extra) = number ∷ place ∷ extra ∷ replicate 5 0
@@ -23,3 +26,13 @@ pub record LineAllAnswered (rs h before after answer : List ℕ) : Type 0 where
 
 pub record LineFirstAnswered (rs h answer : List ℕ) : Type 0 where
   pub answers : answer ≡ eight (lineFirst rs h)
+
+pub record TreeAllAnswered (rs nodes pool h before after answer : List ℕ) : Type 0 where
+  pub answers : answer ≡ eight (treeAll rs nodes pool h (length before))
+  pub leaves : after ≡ treeAllWords rs nodes pool h before
+
+pub record TreeFirstAnswered (rs nodes pool h answer : List ℕ) : Type 0 where
+  pub answers : answer ≡ eight (treeFirst rs nodes pool h)
+
+pub record TreeCheckAnswered (rs nodes pool answer : List ℕ) : Type 0 where
+  pub answers : answer ≡ eight (treeCheck rs nodes pool)

@@ -38,9 +38,9 @@ module _ (m : ℕ) (p : Part) {next cuts longest : ℕ} {lack : Lack} (e : p ≡
   judged-left-over n =
       record {
         says =
-          sym
-          (ap (λ (x : Part). partVerdict m x giving figures x) e ∙
-          giving-refused _ (then-refused _ (fails-refused _ (ne-eqb next m n))));
+            sym
+            (ap (λ (x : Part). partVerdict m x giving figures x) e ∙
+            giving-refused _ (then-refused _ (fails-refused _ (ne-eqb next m n))));
       }
 
   module _ (q : next ≡ m) where
@@ -85,8 +85,8 @@ module _ (rs nodes pool : List ℕ) where
     part-decides {p} {r} q j =
         record {
           answers =
-            j .says ∙ ap (λ (x : Part). partVerdict (nodeCount nodes) x giving figures x) q ∙
-            sym (ap (λ (v : Verdict). v giving figures (rootPart rs nodes pool)) (check-is ∙ then-fine _ e));
+              j .says ∙ ap (λ (x : Part). partVerdict (nodeCount nodes) x giving figures x) q ∙
+              sym (ap (λ (v : Verdict). v giving figures (rootPart rs nodes pool)) (check-is ∙ then-fine _ e));
         }
 
 -- ---- the words

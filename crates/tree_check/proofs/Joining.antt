@@ -31,32 +31,32 @@ module _
     {left : List (List ℕ)} (p : Part) (l : left ≡ leftPart b f v)
     (a : p ≡ partOf (k - 1) rs nodes pool left (i + 1))
   where
-  after-left :
-      partOf k rs nodes pool b i ≡
-      afterLeft i w p (λ next. partOf (k - 1) rs nodes pool (rightOf b f v) next)
-  after-left =
-      e .part ∙
-      ap (λ (x : Part). afterLeft i w x (λ next. partOf (k - 1) rs nodes pool (rightOf b f v) next))
-      (sym (rw (l ∙ left-divided b f v (e .divided)) at a))
+    after-left :
+        partOf k rs nodes pool b i ≡
+        afterLeft i w p (λ next. partOf (k - 1) rs nodes pool (rightOf b f v) next)
+    after-left =
+        e .part ∙
+        ap (λ (x : Part). afterLeft i w x (λ next. partOf (k - 1) rs nodes pool (rightOf b f v) next))
+        (sym (rw (l ∙ left-divided b f v (e .divided)) at a))
 
-  -- a left part that is refused is the refusal
-  pub left-refused : {why : Refusal} → p ≡ Refused why → Refused why ≡ partOf k rs nodes pool b i
-  left-refused q = sym (after-left ∙ rw q)
+    -- a left part that is refused is the refusal
+    pub left-refused : {why : Refusal} → p ≡ Refused why → Refused why ≡ partOf k rs nodes pool b i
+    left-refused q = sym (after-left ∙ rw q)
 
-  module _ {next c g : ℕ} {y : Lack} (q : p ≡ Good next c g y) where
-    -- a right child that is not the first number after the left part is refused
-    pub wrong-child : (w ≡ next → ⊥) → Refused (NodeWrong i) ≡ partOf k rs nodes pool b i
-    wrong-child n = sym (after-left ∙ rw (q, ne-eqb w next n))
+    module _ {next c g : ℕ} {y : Lack} (q : p ≡ Good next c g y) where
+      -- a right child that is not the first number after the left part is refused
+      pub wrong-child : (w ≡ next → ⊥) → Refused (NodeWrong i) ≡ partOf k rs nodes pool b i
+      wrong-child n = sym (after-left ∙ rw (q, ne-eqb w next n))
 
-    -- else both parts are joined
-    pub parts-joined :
-        {right : List (List ℕ)} {j : Part} (s : Part) → w ≡ next → right ≡ rightPart b f v →
-        s ≡ partOf (k - 1) rs nodes pool right next → j ≡ afterRight c g y s → j ≡ partOf k rs nodes pool b i
-    parts-joined s n r t h =
-        sym
-        (after-left ∙ rw (q, eq-eqb w next n)
-        (ap (afterRight c g y) (sym (rw (r ∙ right-divided b f v (e .divided)) at t)) ∙ sym h))
+      -- else both parts are joined
+      pub parts-joined :
+          {right : List (List ℕ)} {j : Part} (s : Part) → w ≡ next → right ≡ rightPart b f v →
+          s ≡ partOf (k - 1) rs nodes pool right next → j ≡ afterRight c g y s → j ≡ partOf k rs nodes pool b i
+      parts-joined s n r t h =
+          sym
+          (after-left ∙ rw (q, eq-eqb w next n)
+          (ap (afterRight c g y) (sym (rw (r ∙ right-divided b f v (e .divided)) at t)) ∙ sym h))
 
-    -- the left part is no deeper than it may be
-    pub left-shallow : c ≤ k - 1
-    left-shallow = part-shallow (k - 1) rs nodes pool left (i + 1) (sym a ∙ q)
+      -- the left part is no deeper than it may be
+      pub left-shallow : c ≤ k - 1
+      left-shallow = part-shallow (k - 1) rs nodes pool left (i + 1) (sym a ∙ q)

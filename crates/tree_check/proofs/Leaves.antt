@@ -44,18 +44,18 @@ module _
     {n : ℕ} (rs nodes pool : List ℕ) (k : ℕ) (b : List (List ℕ)) (i : ℕ) (spelt : Spelt n nodes pool) {s c : ℕ}
     (e : SeesLeaf rs nodes pool k b i s c)
   where
-  leaf-spelt : SpeltLeaf n nodes pool i
-  leaf-spelt = spelt .leaf i (e .is .there) (e .is .mark)
+    leaf-spelt : SpeltLeaf n nodes pool i
+    leaf-spelt = spelt .leaf i (e .is .there) (e .is .mark)
 
-  -- the entries that are seen lie within the pool
-  pub seen-within : s + c ≤ length pool
-  seen-within = rw (e .is .start, e .is .count) (leaf-spelt .within)
+    -- the entries that are seen lie within the pool
+    pub seen-within : s + c ≤ length pool
+    seen-within = rw (e .is .start, e .is .count) (leaf-spelt .within)
 
-  -- what is said of them is said of the part
-  pub seen-part : {p : Part} → p ≡ entriesPart rs (take (s + c - s) (drop s pool)) b i → p ≡ partOf k rs nodes pool b i
-  seen-part q =
-      q ∙ ap (λ (l : List ℕ). entriesPart rs l b i) (part-is-entries nodes pool i s c (e .is .start) (e .is .count)) ∙
-      sym (leaf-part-is-entries rs nodes pool b i leaf-spelt) ∙ sym (e .part)
+    -- what is said of them is said of the part
+    pub seen-part : {p : Part} → p ≡ entriesPart rs (take (s + c - s) (drop s pool)) b i → p ≡ partOf k rs nodes pool b i
+    seen-part q =
+        q ∙ ap (λ (l : List ℕ). entriesPart rs l b i) (part-is-entries nodes pool i s c (e .is .start) (e .is .count)) ∙
+        sym (leaf-part-is-entries rs nodes pool b i leaf-spelt) ∙ sym (e .part)
 
 -- ---- the answer of a leaf
 

@@ -1,7 +1,7 @@
 // The tree check: the list, the sizes, the words node by node, and then the nodes in preorder.
-use crate::preorder::part_of;
 use crate::preorder::Lack;
 use crate::preorder::Part;
+use crate::preorder::part_of;
 use fields::bounds::root_box;
 use refusals::Refusal;
 use refusals::Verdict;

@@ -1,13 +1,13 @@
 // The preorder check of a tree's nodes: each part is checked by the same function, with one cut fewer allowed.
+use fields::bounds::Bounds;
 use fields::bounds::divides;
 use fields::bounds::left_part;
 use fields::bounds::right_part;
-use fields::bounds::Bounds;
 use refusals::Refusal;
 use rules::lacking::lowest_lacking;
 use rules::words::RULE_WORDS;
-use trees::words::node_at;
 use trees::words::Node;
+use trees::words::node_at;
 ghost use Prim.Native.Nat.{_+_, _<_, _≤_, _^_, max};
 ghost use mathlib.Core.Path.{_≡_};
 ghost use lib.ListN.{length};

@@ -57,13 +57,9 @@ looked-last w e = w .looked ∙ rw e (omega arith)
 module _ {rs h all rest : List ℕ} {i : ℕ} (seen : ℕ) (w : Looking (matches rs h) all rest i) where
   -- the first entry that matches is the answer, compared with those before it
   pub first-is :
-      {x y : ℕ} {next : List ℕ} → rest ≡ x ∷ next → y ≡ x → matches rs h x ≡ true →
-      LeafFirst rs h all seen (Rule y seen (i + 1))
-  first-is {x} {y} {next} step e t =
-      record {
-        answers =
-            rw (w .kept ∙ keep-in (matches rs h) x step t, looked-found w step t, e);
-      }
+      {x : ℕ} {next : List ℕ} → rest ≡ x ∷ next → matches rs h x ≡ true → LeafFirst rs h all seen (Rule x seen (i + 1))
+  first-is {x} step t =
+      record { answers = rw (w .kept ∙ keep-in (matches rs h) x step t, looked-found w step t) }
 
   -- where no entry matches all were compared
   pub first-none : {n : ℕ} → rest ≡ [] → n ≡ i → LeafFirst rs h all seen (NoRule seen n)

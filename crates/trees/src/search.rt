@@ -34,7 +34,7 @@ pub enum TreeListed {
 pub enum TreeFirst {
     Refused(Refusal),
     Rule {
-        number: usize,
+        number: u32,
         visited: usize,
         compared: usize,
     },
@@ -211,8 +211,8 @@ fn first_of(rules: &[u32], header: &[u32], leaf: &[u32], visited: usize) -> Tree
 {
     let mut i = 0;
     while i < leaf.len() {
-        let number = wide(leaf[i]);
-        if rule_matches(rules, header, number) {
+        let number = leaf[i];
+        if rule_matches(rules, header, wide(number)) {
             return TreeFirst::Rule {
                 number,
                 visited,

@@ -40,7 +40,7 @@ returns-2 c =
     let w = c .before .before .before in
     let a = w .before .before .before .before .before .before .args in
     let box = ap (λ (b : List (List ℕ)). partOf mostCuts (a .rules .now) (a .nodes .now) (a .pool .now) b 0)
-          (c .before .before .root-box .ensures) in
+    (c .before .before .root-box .ensures) in
     part-decides _ _ _ (sym (w .before .before .words-verdict .ensures) ∙ w .enum-told .given .1)
     (c .before .part-of .ensures ∙ box) (c .judged .ensures)
 

@@ -417,9 +417,10 @@ part-of-join-requires t c κs =
     let s = c .before .before .before .before .before .before .before .before .before .before .before .before .before .before .before in
     let a = s .args in
     let look = c .before .before .before .before .before .before .before .before .before .before .before .look-at in
-    let e = sees-cut (a .rules .now) (a .nodes .now) (a .pool .now) (a .cuts) (a .bounds) (a .at) (look .result) (look .ensures) (c .before .before .before .before .before .before .before .before .before .field .given .1) in
-    (omega (arith, s .pre .1 .1, left-shallow (a .rules .now) (a .nodes .now) (a .pool .now) (a .cuts) (a .bounds) (a .at) e _ (c .before .before .before .before .before .before .before .left-part .ensures) (c .before .before .before .before .before .before .part-of .ensures) (c .before .before .before .before .next .given .1)),
-    part-is-shallow (a .rules .now) (a .nodes .now) (a .pool .now) (a .cuts - 1) _ _ _ (c .part-of2 .ensures) (omega (arith, s .pre .1 .1)))
+    let e = sees-cut (a .rules .now) (a .nodes .now) (a .pool .now) (a .cuts) (a .bounds) (a .at) (look .result) (look .ensures) (c .before .before .before .before .before .before .before .before .before .field .given .1) in (
+      omega (arith, s .pre .1 .1, left-shallow (a .rules .now) (a .nodes .now) (a .pool .now) (a .cuts) (a .bounds) (a .at) e _ (c .before .before .before .before .before .before .before .left-part .ensures) (c .before .before .before .before .before .before .part-of .ensures) (c .before .before .before .before .next .given .1)),
+      part-is-shallow (a .rules .now) (a .nodes .now) (a .pool .now) (a .cuts - 1) _ _ _ (c .part-of2 .ensures) (omega (arith, s .pre .1 .1)),
+    )
 
 part-of-returns-2 : (t : ℕ) → part-of-lts.Need-returns-2 (
   look-at-reads.Asked,

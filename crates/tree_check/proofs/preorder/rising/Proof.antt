@@ -46,11 +46,12 @@ loop-less c = omega arith
 
 loop-again : tie.Need-loop-again Inv-loop μ-loop
 loop-again c =
-    let h = c .before .before .before .before .before in
-    (omega arith,
-    rw (c .after .ensures, c .before .before .wide .ensures .0)
-    (climbing-step (h .loop .inv .1) (drop-step _ _ (c .before .before .before .before .loop-test .taken))
-    (rw (c .before .before .wide .ensures .0) at (c .before .if1 .left))))
+    let h = c .before .before .before .before .before in (
+      omega arith,
+      rw (c .after .ensures, c .before .before .wide .ensures .0)
+          (climbing-step (h .loop .inv .1) (drop-step _ _ (c .before .before .before .before .loop-test .taken))
+          (rw (c .before .before .wide .ensures .0) at (c .before .if1 .left))),
+    )
 
 returns-2 : tie.Need-returns-2 Inv-loop μ-loop
 returns-2 c = sym (climbing-last (c .before .loop .inv .1) (drop-end _ _ (c .loop-test .left)))

@@ -19,11 +19,11 @@ abbrev μ-loop : tie.MeasureT-loop
 loop-holds : tie.Need-loop-holds Inv-loop μ-loop
 loop-holds c = (omega arith, looking-first _ _)
 
-mul-wide : tie.Need-mul-wide Inv-loop μ-loop
-mul-wide c = search needs
+mul-number : tie.Need-mul-number Inv-loop μ-loop
+mul-number c = search needs
 
-shared-slice-read-wide : tie.Need-shared-slice-read-wide Inv-loop μ-loop
-shared-slice-read-wide c = omega arith
+shared-slice-read-number : tie.Need-shared-slice-read-number Inv-loop μ-loop
+shared-slice-read-number c = omega arith
 
 wide-requires : tie.Need-wide-requires Inv-loop μ-loop
 wide-requires c κs = search needs
@@ -38,8 +38,10 @@ returns : tie.Need-returns Inv-loop μ-loop
 returns c =
     let h = c .before .before .before .before .before in
     let turn = c .before .before .before .before .loop-test .taken in
-    let said = compared (h .before .before .before .before .pre) turn (c .before .before .wide .ensures) (c .before .rule-matches .ensures) in
-    first-is _ (h .loop .inv .1) (drop-step _ (h .loop .i) turn) (c .before .before .wide .ensures) (said ∙ c .if1 .taken)
+    let said =
+    compared (h .before .before .before .before .pre) turn (c .before .before .wide .ensures)
+    (c .before .rule-matches .ensures) in
+    first-is _ (h .loop .inv .1) (drop-step _ (h .loop .i) turn) (said ∙ c .if1 .taken)
 
 add-i : tie.Need-add-i Inv-loop μ-loop
 add-i c = omega arith
@@ -51,7 +53,9 @@ loop-again : tie.Need-loop-again Inv-loop μ-loop
 loop-again c =
     let h = c .before .before .before .before .before in
     let turn = c .before .before .before .before .loop-test .taken in
-    let said = compared (h .before .before .before .before .pre) turn (c .before .before .wide .ensures) (c .before .rule-matches .ensures) in
+    let said =
+    compared (h .before .before .before .before .pre) turn (c .before .before .wide .ensures)
+    (c .before .rule-matches .ensures) in
     (omega arith, looking-step (h .loop .inv .1) (drop-step _ (h .loop .i) turn) (said ∙ c .if1 .left))
 
 returns-2 : tie.Need-returns-2 Inv-loop μ-loop
@@ -64,8 +68,8 @@ first-of-spec =
     Inv-loop
     μ-loop
     loop-holds
-    mul-wide
-    shared-slice-read-wide
+    mul-number
+    shared-slice-read-number
     wide-requires
     rule-matches-requires
     add-t12

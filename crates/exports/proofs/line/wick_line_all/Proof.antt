@@ -1,10 +1,10 @@
--- `exports::wick_line_all` meets its contract: what the line search answers, as eight words, and what it leaves.
+-- `exports::line::wick_line_all` meets its contract: what the line search answers, as eight words, and what it leaves.
 -- Assumes nothing.
 use mathlib.Core.Path.{ap, _∙_}
 use borrow.Author.Needs.{needs}
 use Rattle.exports.specs.Answers.{eight}
-use Rattle.exports.proofs.wick_line_all.Statement.{statement}
-use Rattle.exports.proofs.wick_line_all.Tie as tie
+use Rattle.exports.proofs.line.wick_line_all.Statement.{statement}
+use Rattle.exports.proofs.line.wick_line_all.Tie as tie
 
 line-all-requires : tie.Need-line-all-requires
 line-all-requires c κs = search needs

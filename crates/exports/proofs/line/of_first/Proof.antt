@@ -1,11 +1,11 @@
--- `exports::of_first` meets its contract: each case of the answer, as eight words. Assumes nothing.
+-- `exports::line::of_first` meets its contract: each case of the answer, as eight words. Assumes nothing.
 use mathlib.Core.Path.{sym, ap, _∙_}
 use borrow.Author.Needs.{needs}
 use Rattle.rules.specs.declared.line.First.{First}
 use Rattle.rules.specs.LineFirst.{paper}
 use Rattle.exports.specs.Answers.{eight}
-use Rattle.exports.proofs.of_first.Statement.{statement}
-use Rattle.exports.proofs.of_first.Tie as tie
+use Rattle.exports.proofs.line.of_first.Statement.{statement}
+use Rattle.exports.proofs.line.of_first.Tie as tie
 
 enum-known-said : tie.Need-enum-known-said
 enum-known-said c = search needs

@@ -1,11 +1,11 @@
--- `exports::of_listed` meets its contract: each case of the answer, as eight words. Assumes nothing.
+-- `exports::tree::of_listed` meets its contract: each case of the answer, as eight words. Assumes nothing.
 use mathlib.Core.Path.{sym, ap, _∙_}
 use borrow.Author.Needs.{needs}
-use Rattle.rules.specs.declared.line.Listed.{Listed}
-use Rattle.rules.specs.LineAll.{paper}
+use Rattle.trees.specs.declared.search.TreeListed.{TreeListed}
+use Rattle.trees.specs.TreeAll.{paper}
 use Rattle.exports.specs.Answers.{eight}
-use Rattle.exports.proofs.of_listed.Statement.{statement}
-use Rattle.exports.proofs.of_listed.Tie as tie
+use Rattle.exports.proofs.tree.of_listed.Statement.{statement}
+use Rattle.exports.proofs.tree.of_listed.Tie as tie
 
 enum-known-said : tie.Need-enum-known-said
 enum-known-said c = search needs
@@ -17,10 +17,10 @@ enum-known-said-2 : tie.Need-enum-known-said-2
 enum-known-said-2 c = search needs
 
 returns : tie.Need-returns
-returns c = c .of-refusal .ensures ∙ sym (ap (λ (x : Listed). eight (paper x)) (c .before .before .said .given .1))
+returns c = c .of-refusal .ensures ∙ sym (ap (λ (x : TreeListed). eight (paper x)) (c .before .before .said .given .1))
 
 returns-2 : tie.Need-returns-2
-returns-2 c = sym (ap (λ (x : Listed). eight (paper x)) (c .before .said2 .given .1))
+returns-2 c = sym (ap (λ (x : TreeListed). eight (paper x)) (c .before .said2 .given .1))
 
 pub of-listed-spec : {M : Type 1} → statement M
 of-listed-spec =

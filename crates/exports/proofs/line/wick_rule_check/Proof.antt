@@ -1,9 +1,9 @@
--- `exports::wick_rule_check` meets its contract: what the rule check answers, as eight words. Assumes nothing.
+-- `exports::line::wick_rule_check` meets its contract: what the rule check answers, as eight words. Assumes nothing.
 use mathlib.Core.Path.{ap, _∙_}
 use borrow.Author.Needs.{needs}
 use Rattle.exports.specs.Answers.{eight}
-use Rattle.exports.proofs.wick_rule_check.Statement.{statement}
-use Rattle.exports.proofs.wick_rule_check.Tie as tie
+use Rattle.exports.proofs.line.wick_rule_check.Statement.{statement}
+use Rattle.exports.proofs.line.wick_rule_check.Tie as tie
 
 rule-check-requires : tie.Need-rule-check-requires
 rule-check-requires c κs = search needs

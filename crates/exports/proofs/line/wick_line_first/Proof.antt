@@ -1,9 +1,9 @@
--- `exports::wick_line_first` meets its contract: what the line search answers, as eight words. Assumes nothing.
+-- `exports::line::wick_line_first` meets its contract: what the line search answers, as eight words. Assumes nothing.
 use mathlib.Core.Path.{ap, _∙_}
 use borrow.Author.Needs.{needs}
 use Rattle.exports.specs.Answers.{eight}
-use Rattle.exports.proofs.wick_line_first.Statement.{statement}
-use Rattle.exports.proofs.wick_line_first.Tie as tie
+use Rattle.exports.proofs.line.wick_line_first.Statement.{statement}
+use Rattle.exports.proofs.line.wick_line_first.Tie as tie
 
 line-first-requires : tie.Need-line-first-requires
 line-first-requires c κs = search needs

@@ -1,0 +1,50 @@
+-- `exports::tree::of_first` meets its contract: each case of the answer, as eight words. Assumes nothing.
+use native.Mathlib.Omega.{arith}
+use mathlib.Core.Path.{sym, ap, _∙_}
+use borrow.Author.Needs.{needs}
+use Rattle.trees.specs.declared.search.TreeFirst.{TreeFirst}
+use Rattle.trees.specs.TreeFirst.{paper}
+use Rattle.exports.specs.Answers.{eight}
+use Rattle.exports.proofs.tree.of_first.Statement.{statement}
+use Rattle.exports.proofs.tree.of_first.Tie as tie
+
+enum-known-said : tie.Need-enum-known-said
+enum-known-said c = search needs
+
+of-refusal-requires : tie.Need-of-refusal-requires
+of-refusal-requires c κs = search needs
+
+enum-known-said-2 : tie.Need-enum-known-said-2
+enum-known-said-2 c = search needs
+
+cast-t9 : tie.Need-cast-t9
+cast-t9 c = omega arith
+
+add-t10 : tie.Need-add-t10
+add-t10 c = omega arith
+
+enum-known-said-3 : tie.Need-enum-known-said-3
+enum-known-said-3 c = search needs
+
+returns : tie.Need-returns
+returns c = c .of-refusal .ensures ∙ sym (ap (λ (x : TreeFirst). eight (paper x)) (c .before .before .said .given .1))
+
+returns-2 : tie.Need-returns-2
+returns-2 c = sym (ap (λ (x : TreeFirst). eight (paper x)) (c .before .said2 .given .1))
+
+returns-3 : tie.Need-returns-3
+returns-3 c = sym (ap (λ (x : TreeFirst). eight (paper x)) (c .before .said3 .given .1))
+
+pub of-first-spec : {M : Type 1} → statement M
+of-first-spec =
+    tie.close
+    (tie.spec
+    enum-known-said
+    of-refusal-requires
+    enum-known-said-2
+    cast-t9
+    add-t10
+    enum-known-said-3
+    returns
+    returns-2
+    returns-3)

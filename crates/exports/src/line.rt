@@ -1,0 +1,68 @@
+// The rule check and the line search as C functions.
+use crate::answer::of_refusal;
+use rules::check::Checked;
+use rules::line::First;
+use rules::line::Listed;
+ghost use mathlib.Core.Path.{_≡_};
+ghost use Rattle.rules.specs.RuleCheck as checked;
+ghost use Rattle.rules.specs.LineAll as listed;
+ghost use Rattle.rules.specs.LineFirst as first;
+ghost use Rattle.exports.specs.Answers.{eight, RuleCheckAnswered, LineAllAnswered, LineFirstAnswered};
+
+// The value: the number of rules.
+#[no_mangle]
+pub extern "C" fn wick_rule_check(rules: &[u32], answer: &mut [u64; 8])
+    ensures { λ _. ⌜ RuleCheckAnswered (now (rules .entry)) (now (answer .exit)) ⌝ }
+{
+    *answer = of_checked(rules::check::rule_check(rules));
+}
+
+// The value: how many numbers were written to `out`.
+#[no_mangle]
+pub extern "C" fn wick_line_all(
+    rules: &[u32],
+    header: &[u32],
+    out: &mut [u32],
+    answer: &mut [u64; 8],
+)
+    ensures { λ _. ⌜ LineAllAnswered (now (rules .entry)) (now (header .entry)) (now (out .entry)) (now (out .exit))
+        (now (answer .exit)) ⌝ }
+{
+    *answer = of_listed(rules::line::line_all(rules, header, out));
+}
+
+// The values: 1 and the lowest number that matches, or 0.
+#[no_mangle]
+pub extern "C" fn wick_line_first(rules: &[u32], header: &[u32], answer: &mut [u64; 8])
+    ensures { λ _. ⌜ LineFirstAnswered (now (rules .entry)) (now (header .entry)) (now (answer .exit)) ⌝ }
+{
+    *answer = of_first(rules::line::line_first(rules, header));
+}
+
+fn of_checked(said: Checked) -> [u64; 8]
+    ensures { λ r. ⌜ r ≡ eight (checked.paper said) ⌝ }
+{
+    match said {
+        Checked::Refused(why) => of_refusal(why),
+        Checked::Good { rules } => [0, 0, 0, rules as u64, 0, 0, 0, 0],
+    }
+}
+
+fn of_listed(said: Listed) -> [u64; 8]
+    ensures { λ r. ⌜ r ≡ eight (listed.paper said) ⌝ }
+{
+    match said {
+        Listed::Refused(why) => of_refusal(why),
+        Listed::Found { count } => [0, 0, 0, count as u64, 0, 0, 0, 0],
+    }
+}
+
+fn of_first(said: First) -> [u64; 8]
+    ensures { λ r. ⌜ r ≡ eight (first.paper said) ⌝ }
+{
+    match said {
+        First::Refused(why) => of_refusal(why),
+        First::Rule { number } => [0, 0, 0, 1, number as u64, 0, 0, 0],
+        First::NoRule => [0, 0, 0, 0, 0, 0, 0, 0],
+    }
+}

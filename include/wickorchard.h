@@ -6,16 +6,22 @@
  *
  * Each call writes all eight words of `answer`:
  *     0 number   0 on success, else the refusal's number
- *     1 place    where: a rule, a field, or how much room is needed; 0 on success
+ *     1 place    where: a rule, a field, a node, or how much room is needed; 0 on success
  *     2 extra    0 unless the refusal has one; 0 on success
  *     3 4 5      the call's values a, b, c; 0 on a refusal and where a call has no such value
  *     6 7        0
  *
- * The refusals of these calls, in the order in which they are looked for:
+ * The refusals of these calls. Each call names those that it gives, in the order in which they are looked for:
  *     1   rule words not a multiple of ten, or over 5,120
  *     2   a rule is not good: place is the lowest such rule
  *     3   header not five words (place 5), or a port or protocol too large (place is the lowest such field)
  *     4   the lent output is too short: place is the number of words needed
+ *     5   node words none, not a multiple of three, or over 6,141; or a pool over 4,096 words
+ *     6   a node is wrong, missing or left over: place is its number
+ *     7   a leaf's start, count or entries are wrong: place is its node; or, where the counts of all leaves do not make
+ *         the pool, the number of nodes
+ *     8   a leaf lacks a rule whose box meets the leaf's box: place is the node of the lowest such leaf, extra the
+ *         lowest such rule
  */
 #ifndef WICKORCHARD_H
 #define WICKORCHARD_H
@@ -39,6 +45,25 @@ void wick_line_all(const wick_word *rules, wick_count rules_len, const wick_word
  * or a: 0 where none matches. */
 void wick_line_first(const wick_word *rules, wick_count rules_len, const wick_word *header, wick_count header_len,
                      wick_count answer[8]);
+
+/* Searches the tree for every rule of the reached leaf that matches. It takes any words, judged or not. Refuses with 3,
+ * 6, 7, 4. Writes the numbers that match to the front of `out`, as the leaf lists them; the rest of `out` is as found.
+ * a: how many it wrote, b: the nodes visited, with root and leaf, and c: the entries compared. */
+void wick_tree_all(const wick_word *rules, wick_count rules_len, const wick_word *nodes, wick_count nodes_len,
+                   const wick_word *pool, wick_count pool_len, const wick_word *header, wick_count header_len,
+                   wick_word *out, wick_count out_len, wick_count answer[8]);
+
+/* Searches the tree for the first rule of the reached leaf that matches. It takes any words, judged or not. Refuses
+ * with 3, 6, 7. a: the rule's number + 1, or 0 where none matches, b: the nodes visited, with root and leaf, and c: the
+ * entries compared, up to and with the match. */
+void wick_tree_first(const wick_word *rules, wick_count rules_len, const wick_word *nodes, wick_count nodes_len,
+                     const wick_word *pool, wick_count pool_len, const wick_word *header, wick_count header_len,
+                     wick_count answer[8]);
+
+/* Is the tree well formed, and does it give every header the list that the line search gives? Refuses with 1, 2, 5,
+ * then 6 or 7 at the first fault, then 8. a: the most cuts above a leaf, and b: the entries of the longest leaf. */
+void wick_tree_check(const wick_word *rules, wick_count rules_len, const wick_word *nodes, wick_count nodes_len,
+                     const wick_word *pool, wick_count pool_len, wick_count answer[8]);
 
 #ifdef __cplusplus
 }

@@ -29,7 +29,7 @@ enum { SHARED = 0x01, PRIVATE = 0x02, FIXED = 0x10, NO_FILE = 0x20 }; // MAP_..,
 #define NOT_MAPPED ((void *)-1)                                       // MAP_FAILED
 
 // The calls' numbers, as `abi.rs` has them.
-enum { RULE_CHECK = 1, LINE_ALL = 2, LINE_FIRST = 3 };
+enum { RULE_CHECK = 1, LINE_ALL = 2, LINE_FIRST = 3, TREE_ALL = 4, TREE_FIRST = 5, TREE_CHECK = 6 };
 
 // The bytes on either side of the arena that a call may not touch: one that does ends the program.
 enum { MARGIN = 1 << 20 };
@@ -63,6 +63,15 @@ static u64 make_call(char *arena, const struct request *asked) {
     case LINE_FIRST:
         wick_line_first(WORDS(0), WORDS(1), answer);
         return LINE_FIRST;
+    case TREE_ALL:
+        wick_tree_all(WORDS(0), WORDS(1), WORDS(2), WORDS(3), WORDS(4), answer);
+        return TREE_ALL;
+    case TREE_FIRST:
+        wick_tree_first(WORDS(0), WORDS(1), WORDS(2), WORDS(3), answer);
+        return TREE_FIRST;
+    case TREE_CHECK:
+        wick_tree_check(WORDS(0), WORDS(1), WORDS(2), answer);
+        return TREE_CHECK;
     default:
         return 0;
     }

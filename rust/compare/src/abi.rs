@@ -21,6 +21,9 @@ pub enum Call {
     RuleCheck = 1,
     LineAll = 2,
     LineFirst = 3,
+    TreeAll = 4,
+    TreeFirst = 5,
+    TreeCheck = 6,
 }
 
 impl Call {
@@ -30,6 +33,9 @@ impl Call {
             Call::RuleCheck => "wick_rule_check",
             Call::LineAll => "wick_line_all",
             Call::LineFirst => "wick_line_first",
+            Call::TreeAll => "wick_tree_all",
+            Call::TreeFirst => "wick_tree_first",
+            Call::TreeCheck => "wick_tree_check",
         }
     }
 

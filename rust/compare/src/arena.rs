@@ -9,8 +9,8 @@ use std::ops::Range;
 use crate::abi::ANSWER_WORDS;
 use crate::mapping::Mapping;
 
-/// The 32-bit words of the arena. The longest call lends about twelve thousand.
-pub const ARENA_WORDS: usize = 16_384;
+/// The 32-bit words of the arena. The longest call lends about eighteen thousand.
+pub const ARENA_WORDS: usize = 20_480;
 /// The fewest guard words between two lent slices.
 const GUARD_WORDS: usize = 64;
 /// The 32-bit words that the answer takes.

@@ -3,6 +3,7 @@
 use std::io::{self, Write};
 use std::time::Instant;
 
+use oracle::rules::MOST_RULES;
 use oracle::Answer;
 
 use crate::abi::{answer_words, Call};
@@ -10,6 +11,7 @@ use crate::arena::{Arena, Lent};
 use crate::lender::{Lender, Silence};
 use crate::mapping::Mapping;
 use crate::mismatch::{Deed, Inputs, Mismatch};
+use crate::trees::Policy;
 
 /// What a comparison gives: the oracle's answer, with which the library agrees, or a `Mismatch` in writing.
 pub type Agreed = Result<Answer, String>;
@@ -25,12 +27,13 @@ pub struct Bench {
     group: String,
     calls: u64,
     tally: Tally,
+    judged: u64,
 }
 
 impl Bench {
     /// A bench whose calls are made by this lender, in these words that both have mapped.
     pub fn new(lender: Lender, words: Mapping) -> Bench {
-        Bench { lender, arena: Arena::of(words), group: String::new(), calls: 0, tally: Tally::default() }
+        Bench { lender, arena: Arena::of(words), group: String::new(), calls: 0, tally: Tally::default(), judged: 0 }
     }
 
     /// Lets the lender end, which must be willing to. Gives how many calls were compared.
@@ -44,10 +47,14 @@ impl Bench {
         print!("{} ..", self.group);
         io::stdout().flush().expect("standard output is written");
         let (calls, start) = (self.calls, Instant::now());
-        self.tally = Tally::default();
+        (self.tally, self.judged) = (Tally::default(), 0);
         run(self)?;
         let seconds = start.elapsed().as_secs_f64();
-        println!(" {} calls in {seconds:.2} s: {}", self.calls - calls, tally_text(&self.tally));
+        let judged = match self.judged {
+            0 => String::new(),
+            headers => format!("; {headers} headers judged a second time"),
+        };
+        println!(" {} calls in {seconds:.2} s: {}{judged}", self.calls - calls, tally_text(&self.tally));
         Ok(())
     }
 
@@ -55,7 +62,7 @@ impl Bench {
         self.arena.take_back();
         let lent_rules = self.arena.lend("rules", rules);
         let answer = oracle::rule_check(rules);
-        let inputs = Inputs { call: Call::RuleCheck, case, rules, header: None, room: None };
+        let inputs = Inputs { call: Call::RuleCheck, case, rules, tree: None, header: None, room: None };
         self.compare(inputs, &[lent_rules], answer)
     }
 
@@ -65,7 +72,7 @@ impl Bench {
         let lent_header = self.arena.lend("header", header);
         let lent_out = self.arena.lend_room("out", room);
         let answer = oracle::line_all(rules, header, self.arena.wanted(lent_out));
-        let inputs = Inputs { call: Call::LineAll, case, rules, header: Some(header), room: Some(room) };
+        let inputs = Inputs { call: Call::LineAll, case, rules, tree: None, header: Some(header), room: Some(room) };
         self.compare(inputs, &[lent_rules, lent_header, lent_out], answer)
     }
 
@@ -74,15 +81,66 @@ impl Bench {
         let lent_rules = self.arena.lend("rules", rules);
         let lent_header = self.arena.lend("header", header);
         let answer = oracle::line_first(rules, header);
-        let inputs = Inputs { call: Call::LineFirst, case, rules, header: Some(header), room: None };
+        let inputs = Inputs { call: Call::LineFirst, case, rules, tree: None, header: Some(header), room: None };
         self.compare(inputs, &[lent_rules, lent_header], answer)
     }
 
-    /// All three calls. All-match has room for a number of every rule, and one over; its answer is given back.
+    /// All calls on a list. All-match has room for a number of every rule, and one over; its answer is given back.
     pub fn all_calls(&mut self, case: &str, rules: &[u32], header: &[u32]) -> Agreed {
         self.rule_check(case, rules)?;
         self.line_first(case, rules, header)?;
         self.line_all(case, rules, header, rules.len() / 10 + 1)
+    }
+
+    pub fn tree_check(&mut self, case: &str, policy: &Policy) -> Agreed {
+        let Policy { rules, nodes, pool } = policy;
+        let slices = self.lend_policy(policy);
+        let answer = oracle::tree_check(rules, nodes, pool);
+        let tree = Some((nodes.as_slice(), pool.as_slice()));
+        let inputs = Inputs { call: Call::TreeCheck, case, rules, tree, header: None, room: None };
+        self.compare(inputs, &slices, answer)
+    }
+
+    pub fn tree_all(&mut self, case: &str, policy: &Policy, header: &[u32], room: usize) -> Agreed {
+        let Policy { rules, nodes, pool } = policy;
+        let [lent_rules, lent_nodes, lent_pool] = self.lend_policy(policy);
+        let lent_header = self.arena.lend("header", header);
+        let lent_out = self.arena.lend_room("out", room);
+        let answer = oracle::tree_all(rules, nodes, pool, header, self.arena.wanted(lent_out));
+        let tree = Some((nodes.as_slice(), pool.as_slice()));
+        let inputs = Inputs { call: Call::TreeAll, case, rules, tree, header: Some(header), room: Some(room) };
+        self.compare(inputs, &[lent_rules, lent_nodes, lent_pool, lent_header, lent_out], answer)
+    }
+
+    pub fn tree_first(&mut self, case: &str, policy: &Policy, header: &[u32]) -> Agreed {
+        let Policy { rules, nodes, pool } = policy;
+        let [lent_rules, lent_nodes, lent_pool] = self.lend_policy(policy);
+        let lent_header = self.arena.lend("header", header);
+        let answer = oracle::tree_first(rules, nodes, pool, header);
+        let tree = Some((nodes.as_slice(), pool.as_slice()));
+        let inputs = Inputs { call: Call::TreeFirst, case, rules, tree, header: Some(header), room: None };
+        self.compare(inputs, &[lent_rules, lent_nodes, lent_pool, lent_header], answer)
+    }
+
+    /// Both tree searches. All-match has room for every word of the pool, or for 512, and one over; its answer is
+    /// given back.
+    pub fn tree_searches(&mut self, case: &str, policy: &Policy, header: &[u32]) -> Agreed {
+        self.tree_first(case, policy, header)?;
+        self.tree_all(case, policy, header, policy.pool.len().min(MOST_RULES) + 1)
+    }
+
+    /// Counts so many headers that a second judge has searched for, for the group's line.
+    pub fn count_judged(&mut self, headers: u64) {
+        self.judged += headers;
+    }
+
+    /// Lends the rules, the nodes and the pool.
+    fn lend_policy(&mut self, policy: &Policy) -> [Lent; 3] {
+        self.arena.take_back();
+        let lent_rules = self.arena.lend("rules", &policy.rules);
+        let lent_nodes = self.arena.lend("nodes", &policy.nodes);
+        let lent_pool = self.arena.lend("pool", &policy.pool);
+        [lent_rules, lent_nodes, lent_pool]
     }
 
     /// Has the library make the call with these slices, and compares the whole arena with what the oracle has left

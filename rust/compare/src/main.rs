@@ -21,6 +21,8 @@ mod lists;
 #[allow(unsafe_code)]
 mod mapping;
 mod mismatch;
+mod tree_damages;
+mod trees;
 
 use std::env;
 use std::ffi::OsString;

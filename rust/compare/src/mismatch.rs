@@ -8,6 +8,8 @@ use crate::lender::Silence;
 
 /// The most rules of a list that are written out.
 const SHOWN_RULES: usize = 6;
+/// The most nodes of a tree, and the most words of its pool, that are written out.
+const SHOWN_NODES: usize = 40;
 /// The most words of any other slice, and the most differences, that are written out.
 const SHOWN_WORDS: usize = 12;
 
@@ -16,6 +18,8 @@ pub struct Inputs<'a> {
     pub call: Call,
     pub case: &'a str,
     pub rules: &'a [u32],
+    /// The node words and the pool; None where the call takes no tree.
+    pub tree: Option<(&'a [u32], &'a [u32])>,
     /// None where the call takes no header.
     pub header: Option<&'a [u32]>,
     /// None where the call takes no output.
@@ -44,6 +48,13 @@ impl Display for Mismatch<'_> {
         writeln!(to, "  group    {}", self.group)?;
         writeln!(to, "  case     {}", self.inputs.case)?;
         self.show_rules(to)?;
+        if let Some((nodes, pool)) = self.inputs.tree {
+            writeln!(to, "  nodes    {} words", nodes.len())?;
+            for (number, node) in nodes.chunks(3).enumerate().take(SHOWN_NODES) {
+                writeln!(to, "    node {number}: {node:?}")?;
+            }
+            writeln!(to, "  pool     {} words: {:?}", pool.len(), &pool[..pool.len().min(SHOWN_NODES)])?;
+        }
         if let Some(header) = self.inputs.header {
             let shown = &header[..header.len().min(SHOWN_WORDS)];
             writeln!(to, "  header   {} words: {shown:?}", header.len())?;
@@ -61,10 +72,10 @@ impl Display for Mismatch<'_> {
 }
 
 impl Mismatch<'_> {
-    /// Writes the first rules of the list, and the rule that either answer names by its place or its value.
+    /// Writes the first rules of the list, and those that either answer names by its place, its extra or a value.
     fn show_rules(&self, to: &mut Formatter) -> fmt::Result {
         writeln!(to, "  rules    {} words", self.inputs.rules.len())?;
-        let names = |answer: &[u64], number: usize| answer[1] == number as u64 || answer[4] == number as u64;
+        let names = |answer: &[u64], number: usize| [1, 2, 4].iter().any(|&word| answer[word] == number as u64);
         let named = |number| match &self.library {
             Deed::Left { answer, .. } => names(answer, number) || names(&self.oracle, number),
             Deed::Stayed(_) => names(&self.oracle, number),

@@ -36,6 +36,14 @@ pub enum Refusal {
     HeaderField { field: usize },
     /// The lent output is too short for the numbers needed.
     OutputShort { needed: usize },
+    /// The node words are none, not a multiple of three, or over 6,141; or the pool is over 4,096.
+    TreeWords,
+    /// A node is wrong, missing or left over.
+    NodeWrong { node: u64 },
+    /// A leaf's start, count or entries are wrong; the node count stands for counts that do not make the pool.
+    LeafWrong { node: u64 },
+    /// A leaf lacks a rule whose box meets the leaf's box; these are the lowest such leaf, and its lowest such rule.
+    LeafLacksRule { node: u64, rule: u64 },
 }
 
 impl Refusal {
@@ -47,6 +55,10 @@ impl Refusal {
             Refusal::HeaderLength => (3, 5, 0),
             Refusal::HeaderField { field } => (3, field as u64, 0),
             Refusal::OutputShort { needed } => (4, needed as u64, 0),
+            Refusal::TreeWords => (5, 0, 0),
+            Refusal::NodeWrong { node } => (6, node, 0),
+            Refusal::LeafWrong { node } => (7, node, 0),
+            Refusal::LeafLacksRule { node, rule } => (8, node, rule),
         }
     }
 }

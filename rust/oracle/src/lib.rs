@@ -6,16 +6,32 @@
 //!
 //! - [`rule_check`]: is every rule of the list good;
 //! - [`line_all`]: the numbers of all rules that match a header;
-//! - [`line_first`]: the lowest number of them.
+//! - [`line_first`]: the lowest number of them;
+//! - [`tree_all`]: the numbers in a leaf that match a header, by a walk through a tree;
+//! - [`tree_first`]: the first number of them;
+//! - [`tree_check`]: is the tree well formed, and does each leaf list every rule that can match there.
+//!
+//! Besides, [`builder`] makes trees that are right for a list, and [`corners`] judges small trees a second time, by
+//! searching for every header that could get a wrong list.
 
 #![forbid(unsafe_code)]
 
 pub mod answer;
+pub mod boxes;
+pub mod builder;
+pub mod corners;
 pub mod header;
 pub mod line;
 pub mod matching;
+pub mod nodes;
+pub mod parts;
 pub mod rules;
+pub mod spelt;
+pub mod tree_check;
+pub mod tree_search;
 
 pub use answer::{Answer, Refusal};
 pub use line::{line_all, line_first};
 pub use rules::rule_check;
+pub use tree_check::tree_check;
+pub use tree_search::{tree_all, tree_first};

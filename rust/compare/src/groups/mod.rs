@@ -6,15 +6,33 @@ mod drawn_damage;
 mod limits;
 mod order;
 mod rooms;
+mod tree_agreement;
+mod tree_cases;
+mod tree_chains;
+mod tree_correctness;
+mod tree_damage;
+mod tree_drawn;
+mod tree_limits;
+mod tree_order;
+mod tree_words;
 
 use crate::bench::{Bench, Run};
 
-/// Compares every group in turn.
+/// Compares every group in turn: lists, then trees.
 pub fn run(bench: &mut Bench) -> Run {
     correctness::run(bench)?;
     limits::run(bench)?;
     rooms::run(bench)?;
     damage::run(bench)?;
     order::run(bench)?;
-    drawn_damage::run(bench)
+    drawn_damage::run(bench)?;
+    tree_correctness::run(bench)?;
+    tree_agreement::run(bench)?;
+    tree_chains::run(bench)?;
+    tree_limits::run(bench)?;
+    tree_damage::run(bench)?;
+    tree_cases::run(bench)?;
+    tree_order::run(bench)?;
+    tree_drawn::run(bench)?;
+    tree_words::run(bench)
 }

@@ -1,0 +1,126 @@
+//! Good trees: the worked policy's, and for drawn lists some that are built and some that are grown at random.
+
+use oracle::boxes::{Side, Sides};
+use oracle::builder::{self, Limits};
+use oracle::nodes::{MOST_ENTRIES, MOST_NODES};
+use oracle::parts::{Part, Places};
+use oracle::rules::judge_rules;
+
+use crate::draws::Draws;
+use crate::headers::{self, Header, LARGEST};
+use crate::lists::{List, Rule, WORKED_POLICY};
+
+/// The words of a list and of a tree, as the calls take them.
+#[derive(Clone)]
+pub struct Policy {
+    pub rules: Vec<u32>,
+    pub nodes: Vec<u32>,
+    pub pool: Vec<u32>,
+}
+
+impl Policy {
+    pub fn of(rules: &[Rule], root: &Part) -> Policy {
+        let words = root.words();
+        Policy { rules: rules.concat(), nodes: words.nodes, pool: words.pool }
+    }
+
+    /// How many nodes there are.
+    pub fn node_count(&self) -> usize {
+        self.nodes.len() / 3
+    }
+}
+
+/// A good list and a tree that is right for it.
+pub struct Planted {
+    pub rules: Vec<Rule>,
+    pub root: Part,
+    pub policy: Policy,
+    pub places: Places,
+}
+
+impl Planted {
+    pub fn of(rules: &[Rule], root: Part) -> Planted {
+        let policy = Policy::of(rules, &root);
+        let places = root.places();
+        Planted { rules: rules.to_vec(), root, policy, places }
+    }
+}
+
+pub fn leaf(entries: &[u32]) -> Part {
+    Part::Leaf { entries: entries.to_vec() }
+}
+
+pub fn cut(field: usize, value: u32, left: Part, right: Part) -> Part {
+    Part::Cut { field, value, left: Box::new(left), right: Box::new(right) }
+}
+
+/// The worked policy's tree of five nodes.
+pub fn worked() -> Planted {
+    let inner = cut(0, 184_549_375, leaf(&[0, 1, 2]), leaf(&[2]));
+    Planted::of(&WORKED_POLICY, cut(0, 167_772_159, leaf(&[2]), inner))
+}
+
+/// Builds a tree whose leaves would have at most this many entries; more where it is over the scope's limits otherwise.
+pub fn built(list: &List, leaf: usize, cuts: u64) -> Planted {
+    let rules = judge_rules(&list.words()).expect("the list is good");
+    let within = |leaf| builder::build(&rules, Limits { leaf, cuts, nodes: MOST_NODES, entries: MOST_ENTRIES });
+    let root = (0..10).find_map(|doubled| within(leaf << doubled)).expect("one leaf of 512 rules is within the limits");
+    Planted::of(&list.rules, root)
+}
+
+/// Grows a tree of at most this many cuts; of fewer where the pool would be over its limit.
+pub fn grown(list: &List, cuts: u64, draws: &mut Draws) -> Planted {
+    let rules = judge_rules(&list.words()).expect("the list is good");
+    let most_leaves = MOST_ENTRIES as u64 / (rules.len() as u64).max(1);
+    let cuts = cuts.min(most_leaves - 1).min(MOST_NODES as u64 / 2);
+    let root = builder::grow(&rules, cuts, &mut |bound| draws.below(bound as usize) as u64);
+    Planted::of(&list.rules, root)
+}
+
+/// A part of the tree, by the number of its node.
+pub fn part_at(root: &mut Part, node: u64) -> &mut Part {
+    let mut here = root;
+    let mut rest = node;
+    while rest > 0 {
+        let Part::Cut { left, right, .. } = here else { panic!("the node is in the tree") };
+        let in_left = left.node_count();
+        (here, rest) = if rest <= in_left { (left, rest - 1) } else { (right, rest - 1 - in_left) };
+    }
+    here
+}
+
+/// A header of the box, in each field at an end of it or anywhere.
+pub fn inside(sides: &Sides, draws: &mut Draws) -> Header {
+    std::array::from_fn(|field| {
+        let Side { low, high } = sides[field];
+        let (low, high) = (low as u32, high as u32);
+        match draws.below(4) {
+            0 => low,
+            1 => high,
+            _ => draws.between(low, high),
+        }
+    })
+}
+
+/// A header at a corner of a leaf's box, just beside one, at a corner of a rule, or anywhere.
+pub fn header_for(planted: &Planted, draws: &mut Draws) -> Header {
+    let leaves = &planted.places.leaves;
+    let header = inside(&leaves[draws.below(leaves.len())].sides, draws);
+    match draws.below(6) {
+        0 | 1 => header,
+        2 if !planted.places.cuts.is_empty() => {
+            let cuts = &planted.places.cuts;
+            let cut = &cuts[draws.below(cuts.len())];
+            let value = cut.value.saturating_add(draws.below(2) as u32).min(LARGEST[cut.field]);
+            headers::with(header, cut.field, value)
+        }
+        3 | 4 if !planted.rules.is_empty() => {
+            let rule = draws.pick(&planted.rules);
+            let at_corners = std::array::from_fn(|field| draws.pick(&headers::corners(&rule, field)));
+            let field = draws.below(5);
+            let one_corner = headers::with(headers::inside(&rule, draws), field, at_corners[field]);
+            draws.pick(&[at_corners, one_corner])
+        }
+        _ => headers::anywhere(draws),
+    }
+}

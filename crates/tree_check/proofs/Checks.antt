@@ -23,14 +23,16 @@ use Rattle.tree_check.specs.declared.preorder.Part.{Part}
 use Rattle.tree_check.specs.declared.preorder.Part.the-variants as part
 use Rattle.tree_check.specs.declared.check.TreeAnswer.{TreeAnswer}
 use Rattle.tree_check.specs.declared.check.TreeAnswer.the-variants.{Refused, Accepted}
-use Rattle.tree_check.specs.TreeCheck.{paper, rootPart, lackVerdict, partVerdict, figures, checkVerdict, treeCheck, TreeChecked}
+use Rattle.tree_check.specs.TreeCheck.{paper, rootPart, lackVerdict, partVerdict, figures}
+use Rattle.tree_check.specs.TreeCheck.{checkVerdict, treeCheck, TreeChecked}
 use Rattle.tree_check.specs.Steps.{wordsVerdict, Judged}
 
 -- ---- the root's part
 
 -- a part that is refused is the refusal
 pub judged-refused : (m : ℕ) (p : Part) {why : Refusal} → p ≡ part.Refused why → Judged m p (Refused why)
-judged-refused m p e = record { says = sym (ap (λ (x : Part). partVerdict m x giving figures x) e ∙ giving-refused _ refl) }
+judged-refused m p e =
+    record { says = sym (ap (λ (x : Part). partVerdict m x giving figures x) e ∙ giving-refused _ refl) }
 
 module _ (m : ℕ) (p : Part) {next cuts longest : ℕ} {lack : Lack} (e : p ≡ part.Good next cuts longest lack) where
   -- a node left over is refused
@@ -62,13 +64,16 @@ module _ (m : ℕ) (p : Part) {next cuts longest : ℕ} {lack : Lack} (e : p ≡
 -- ---- the whole check
 
 module _ (rs nodes pool : List ℕ) where
-  check-is : checkVerdict rs nodes pool ≡ (wordsVerdict rs nodes pool then partVerdict (nodeCount nodes) (rootPart rs nodes pool))
+  check-is :
+      checkVerdict rs nodes pool ≡
+      (wordsVerdict rs nodes pool then partVerdict (nodeCount nodes) (rootPart rs nodes pool))
   unfolding checkVerdict wordsVerdict
   check-is =
       ap (λ (v : Verdict). listVerdict rs then v) (sym (then-assoc _ _ _)) ∙ sym (then-assoc _ _ _)
 
   -- words that are refused are the refusal
-  pub words-refused : {why : Refusal} → wordsVerdict rs nodes pool ≡ verdict.Refused why → TreeChecked rs nodes pool (Refused why)
+  pub words-refused :
+      {why : Refusal} → wordsVerdict rs nodes pool ≡ verdict.Refused why → TreeChecked rs nodes pool (Refused why)
   unfolding treeCheck
   words-refused e = record { answers = sym (giving-refused _ (check-is ∙ then-refused _ e)) }
 
@@ -80,7 +85,8 @@ module _ (rs nodes pool : List ℕ) where
 
     -- then the root's part decides
     pub part-decides :
-        {p : Part} {r : TreeAnswer} → p ≡ rootPart rs nodes pool → Judged (nodeCount nodes) p r → TreeChecked rs nodes pool r
+        {p : Part} {r : TreeAnswer} → p ≡ rootPart rs nodes pool → Judged (nodeCount nodes) p r →
+        TreeChecked rs nodes pool r
     unfolding treeCheck
     part-decides {p} {r} q j =
         record {
@@ -106,6 +112,7 @@ module _ (rs nodes pool : List ℕ) (l : listVerdict rs ≡ verdict.Fine) where
   sizes-refused e = sym (then-fine _ l ∙ then-refused _ e)
 
   -- else the words of the nodes decide
-  pub spelt-decides : sizeVerdict nodes pool ≡ verdict.Fine → speltVerdict (ruleCount rs) nodes pool ≡ wordsVerdict rs nodes pool
+  pub spelt-decides :
+      sizeVerdict nodes pool ≡ verdict.Fine → speltVerdict (ruleCount rs) nodes pool ≡ wordsVerdict rs nodes pool
   unfolding wordsVerdict
   spelt-decides e = sym (then-fine _ l ∙ then-fine _ e)

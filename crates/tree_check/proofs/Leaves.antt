@@ -52,7 +52,8 @@ module _
     seen-within = rw (e .is .start, e .is .count) (leaf-spelt .within)
 
     -- what is said of them is said of the part
-    pub seen-part : {p : Part} → p ≡ entriesPart rs (take (s + c - s) (drop s pool)) b i → p ≡ partOf k rs nodes pool b i
+    pub seen-part :
+        {p : Part} → p ≡ entriesPart rs (take (s + c - s) (drop s pool)) b i → p ≡ partOf k rs nodes pool b i
     seen-part q =
         q ∙ ap (λ (l : List ℕ). entriesPart rs l b i) (part-is-entries nodes pool i s c (e .is .start) (e .is .count)) ∙
         sym (leaf-part-is-entries rs nodes pool b i leaf-spelt) ∙ sym (e .part)

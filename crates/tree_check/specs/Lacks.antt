@@ -1,8 +1,8 @@
 -- What refusal 8 is to mean. Definitions only.
 --   LacksNone rs nodes pool d x     leaf x, whose box is d, lists every rule whose box meets d
---   LacksFirst rs nodes pool i r    i is the lowest leaf that lacks a rule, and r the lowest rule that it lacks: the box
---                                   of r meets the leaf's, `box`, and r is not listed; each lower rule that meets it is
---                                   listed, and each lower leaf lacks none
+--   LacksFirst rs nodes pool i r    i is the lowest leaf that lacks a rule, and r the lowest rule that it lacks: the
+--                                   box of r meets the leaf's, `box`, and r is not listed; each lower rule that meets
+--                                   it is listed, and each lower leaf lacks none
 --   LacksRule rs nodes pool i r     the list is good, the sizes hold, the tree is well formed, and i and r are so
 --   Misleads rs nodes pool          the list is good, the sizes hold, the tree is well formed, and `header` is legal
 --                                   and gets from the tree another list than from the rules

@@ -1,10 +1,12 @@
 -- The preorder check: one recursion on the cuts still allowed. Definitions only.
 --   lackOf rs nodes pool b i      the lowest rule whose box meets the box of leaf i, and which the leaf lacks; or none
 --   leafPart rs nodes pool b i    leaf i: 7 where its entries do not rise
---   afterLeft at child left right     a cut after its left part: 6 at the cut for the right child's number, then its right
+--   afterLeft at child left right     a cut after its left part: 6 at the cut for the right child's number, then its
+--                                     right part
 --   afterRight cuts longest lack right    both parts joined: the deeper, the longer, and the first lack
 --   partOf k rs nodes pool b i    the part that begins at node i, for box b, with k more cuts allowed: a node that is
---                                 there; a leaf; or a cut: its depth, its value, its left part, its child, its right part
+--                                 there; a leaf; or a cut: its depth, its value, its left part, its child, its right
+--                                 part
 use Prim.Native.Nat.{ℕ, zero, suc, _+_, max}
 use mathlib.Core.Bool.{Bool, true, false, cond}
 use mathlib.Core.List.{List}

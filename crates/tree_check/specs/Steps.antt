@@ -47,7 +47,8 @@ lackAt node rule n = cond (ltb rule n) (Lacks node rule) Complete
 
 unfoldable pub entriesPart : List ℕ → List ℕ → List (List ℕ) → ℕ → Part
 entriesPart rs l b i =
-    cond (rises 0 l) (Good (i + 1) 0 (length l) (lackAt i (lowestLacking rs l b) (ruleCount rs))) (Refused (LeafWrong i))
+    cond (rises 0 l) (Good (i + 1) 0 (length l) (lackAt i (lowestLacking rs l b) (ruleCount rs)))
+    (Refused (LeafWrong i))
 
 unfoldable pub Shallow : Part → Type 0
 Shallow (Refused why) = Unit {0}

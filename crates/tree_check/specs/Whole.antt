@@ -1,7 +1,7 @@
 -- Well-formed trees. Definitions only.
 --   mostCuts                     the most cuts above a leaf
---   Whole nodes pool k b i e     the nodes from i up to e are one part in preorder: i's whole part, for box b, with at most
---                                k cuts above any of its leaves
+--   Whole nodes pool k b i e     the nodes from i up to e are one part in preorder: i's whole part, for box b, with at
+--                                most k cuts above any of its leaves
 --   WellFormed n nodes pool      spelt, there being n rules, and the root's part ends at the last node
 use Prim.Native.Nat.{ℕ, zero, suc, _+_, _≤_, _<_}
 use mathlib.Core.Bool.{true}

@@ -1,4 +1,5 @@
--- `tree_check::check::judged` meets its contract: a node left over comes before a rule that is lacking. Assumes nothing.
+-- `tree_check::check::judged` meets its contract: a node left over comes before a rule that is lacking.
+-- Assumes nothing.
 use borrow.Author.Needs.{needs}
 use Rattle.tree_check.proofs.Checks.{judged-refused, judged-left-over, judged-accepted, judged-lacking}
 use Rattle.tree_check.proofs.check.judged.Statement.{statement}

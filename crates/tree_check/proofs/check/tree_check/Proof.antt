@@ -26,7 +26,8 @@ root-box-requires c κs = search needs
 
 part-of-requires : tie.Need-part-of-requires
 part-of-requires c κs =
-    (words-spelt _ _ _ (sym (c .before .before .before .words-verdict .ensures) ∙ c .before .enum-told .given .1), omega arith)
+    let w = c .before in
+    (words-spelt _ _ _ (sym (w .before .before .words-verdict .ensures) ∙ w .enum-told .given .1), omega arith)
 
 judged-requires : tie.Need-judged-requires
 judged-requires c κs = search needs

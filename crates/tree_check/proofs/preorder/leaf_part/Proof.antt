@@ -23,7 +23,8 @@ lack-at-requires c κs = search needs
 returns-2 : tie.Need-returns-2
 returns-2 c =
     let w = c .before .before in
-    entries-rise _ _ _ _ (w .before .rising .ensures) (w .if1 .left) (c .lack-at .ensures) (c .before .lowest-lacking .ensures)
+    entries-rise _ _ _ _ (w .before .rising .ensures) (w .if1 .left) (c .lack-at .ensures)
+    (c .before .lowest-lacking .ensures)
 
 pub leaf-part-spec : {M : Type 1} → statement M
 leaf-part-spec =

@@ -32,12 +32,8 @@ module _ (rs nodes pool : List ℕ) where
       to : checkVerdict rs nodes pool ≡ Fine → Serves rs nodes pool
       to e =
           let t = accepted e .2 in
-          record {
-            list = t .list;
-            sizes = t .sizes;
-            formed = well-formed t;
-            agrees = agrees-of-complete (formed t) refl;
-          }
+          let agrees = agrees-of-complete (formed t) refl in
+          record { list = t .list; sizes = t .sizes; formed = well-formed t; agrees = agrees }
 
       of : Serves rs nodes pool → checkVerdict rs nodes pool ≡ Fine
       of s =

@@ -92,12 +92,7 @@ module _ (rs nodes pool : List ℕ) (k : ℕ) (b : List (List ℕ)) (i : ℕ) wh
 
     divided-so : (k ≡ 0 → ⊥) → divides b f v ≡ true → SeesCut f v w
     divided-so n e =
-        record {
-          is = c;
-          allowed = omega arith;
-          divided = e;
-          part = rw (c .field, c .value, c .child) whole;
-        }
+        record { is = c; allowed = omega arith; divided = e; part = rw (c .field, c .value, c .child) whole }
       where
         whole :
             partOf k rs nodes pool b i ≡

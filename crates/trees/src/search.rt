@@ -54,8 +54,8 @@ pub enum Reached {
     },
 }
 
-// Every entry of the reached leaf that matches, in its order, from the front of `out` on; the rest of `out` is as found.
-// A refusal writes nothing.
+// Every entry of the reached leaf that matches, in its order, from the front of `out` on; the rest of `out` is as
+// found. A refusal writes nothing.
 pub fn tree_all(
     rules: &[u32],
     nodes: &[u32],

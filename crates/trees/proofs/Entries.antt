@@ -18,8 +18,8 @@ use Rattle.trees.specs.Steps.{Comparable, LeafFirst}
 
 -- an entry that names a rule is compared as the rule is
 pub compared :
-    {rs h l : List ℕ} {i x : ℕ} {t : Bool} → Comparable rs h l → i < length l → x ≡ getD l i 0 → t ≡ ruleMatches rs h x →
-    matches rs h (getD l i 0) ≡ t
+    {rs h l : List ℕ} {i x : ℕ} {t : Bool} → Comparable rs h l → i < length l → x ≡ getD l i 0 →
+    t ≡ ruleMatches rs h x → matches rs h (getD l i 0) ≡ t
 compared {rs} {h} {l} {i} w u e q =
     sym
     (q ∙ ap (ruleMatches rs h) e ∙
@@ -50,7 +50,8 @@ module _ {p : ℕ → Bool} {all rest next : List ℕ} {i x : ℕ} (w : Looking 
   unfolding lookedAt
   looked-found t = w .looked ∙ rw (step, t)
 
-looked-last : {p : ℕ → Bool} {all rest : List ℕ} {i : ℕ} → Looking p all rest i → rest ≡ [] → length (lookedAt p all) ≡ i
+looked-last :
+    {p : ℕ → Bool} {all rest : List ℕ} {i : ℕ} → Looking p all rest i → rest ≡ [] → length (lookedAt p all) ≡ i
 unfolding lookedAt
 looked-last w e = w .looked ∙ rw e (omega arith)
 

@@ -31,7 +31,8 @@ same-length c = search needs
 returns-2 : tie.Need-returns-2
 returns-2 c =
     let w = c .before .before in
-    leaf-listed _ _ _ _ _ (sym (w .before .before .before .before .room-verdict .ensures) ∙ w .before .before .enum-told .given .1)
+    leaf-listed _ _ _ _ _
+    (sym (w .before .before .before .before .room-verdict .ensures) ∙ w .before .before .enum-told .given .1)
     (w .write-entries .ensures)
 
 pub all-of-spec : {M : Type 1} → statement M

@@ -1,5 +1,5 @@
--- `trees::search::tree_all` meets its contract: a refusal on the way writes nothing, and at the leaf the entries decide.
--- Assumes nothing.
+-- `trees::search::tree_all` meets its contract: a refusal on the way writes nothing, and at the leaf the entries
+-- decide. Assumes nothing.
 use native.Mathlib.Omega.{arith}
 use mathlib.Core.Path.{subst}
 use borrow.Author.Needs.{needs}
@@ -14,7 +14,9 @@ here :
     let s = c .before .before .before .before .before .before .before .before .before .args in
     AtReached (s .rules .now) (s .nodes .now) (s .pool .now) (s .header .now) (c .before .start .given .0 .0)
     (c .before .start .given .0 .1 .0) (c .before .start .given .0 .1 .1 .0)
-here c = at-reached _ _ _ _ (subst (Reaches _ _ _ _) (c .before .start .given .1) (c .before .before .before .reach .ensures))
+here c =
+    at-reached _ _ _ _
+    (subst (Reaches _ _ _ _) (c .before .start .given .1) (c .before .before .before .reach .ensures))
 
 reach-requires : tie.Need-reach-requires
 reach-requires c κs = search needs
@@ -44,7 +46,9 @@ all-of-requires : tie.Need-all-of-requires
 all-of-requires c κs = part-comparable _ _ _ _ (here (c .before .before))
 
 returns : tie.Need-returns
-returns c = all-refused _ _ _ _ _ (subst (Reaches _ _ _ _) (c .before .why .given .1) (c .before .before .before .reach .ensures))
+returns c =
+    all-refused _ _ _ _ _
+    (subst (Reaches _ _ _ _) (c .before .why .given .1) (c .before .before .before .reach .ensures))
 
 same-length : tie.Need-same-length
 same-length c = search needs

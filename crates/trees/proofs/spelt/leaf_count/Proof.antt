@@ -16,7 +16,8 @@ node-word-requires-2 c κs = search needs
 
 returns-2 : tie.Need-returns-2
 returns-2 c =
-    c .node-word2 .ensures .is ∙ leaf-counts _ _ (rw (c .before .before .node-word .ensures .is) at (c .before .if1 .left))
+    c .node-word2 .ensures .is ∙
+    leaf-counts _ _ (rw (c .before .before .node-word .ensures .is) at (c .before .if1 .left))
 
 pub leaf-count-spec : {M : Type 1} → statement M
 leaf-count-spec = tie.close (tie.spec node-word-requires returns node-word-requires-2 returns-2)

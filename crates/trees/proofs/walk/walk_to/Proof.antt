@@ -1,15 +1,12 @@
 -- `trees::walk::walk_to` meets its contract. The invariant: so many cuts lie behind, and the walk from here on decides.
 -- Numbers rise on the way. Assumes nothing.
-use Prim.Native.Nat.{_<_, _+_, _-_, _*_, _^_}
-use Prim.Native.Nat.{_<_, _-_, _^_}
+use Prim.Native.Nat.{_+_, _-_, _*_, _^_, _<_}
 use native.Mathlib.Omega.{arith}
 use mathlib.Core.Path.{sym, _∙_}
 use borrow.Author.Needs.{needs}
 use Rattle.trees.specs.Words.{nodeCount}
-use Rattle.trees.specs.Words.{childOf}
 use Rattle.trees.proofs.Walking.{Walking, walking-first, walking-lost, walking-came, walking-step}
 use Rattle.trees.proofs.Walking.{next-means, goes-on-rises, goes-on-below}
-use Rattle.trees.proofs.Walking.{next-means, side-above, side-at-most}
 use Rattle.trees.proofs.walk.walk_to.Statement.{statement}
 use Rattle.trees.proofs.walk.walk_to.Tie as tie
 
@@ -29,7 +26,9 @@ enum-told : tie.Need-enum-told Inv-loop μ-loop
 enum-told c = search needs
 
 returns : tie.Need-returns Inv-loop μ-loop
-returns c = walking-lost (c .before .before .before .loop .inv .1) (sym (c .before .before .step-of .ensures) ∙ c .enum-told .given .1)
+returns c =
+    walking-lost (c .before .before .before .loop .inv .1)
+    (sym (c .before .before .step-of .ensures) ∙ c .enum-told .given .1)
 
 enum-told-2 : tie.Need-enum-told-2 Inv-loop μ-loop
 enum-told-2 c = search needs
@@ -38,7 +37,9 @@ add-t7 : tie.Need-add-t7 Inv-loop μ-loop
 add-t7 c = omega (arith, c .before .before .before .loop .inv .1 .behind)
 
 returns-2 : tie.Need-returns-2 Inv-loop μ-loop
-returns-2 c = walking-came (c .before .before .before .loop .inv .1) (sym (c .before .before .step-of .ensures) ∙ c .enum-told2 .given .1)
+returns-2 c =
+    walking-came (c .before .before .before .loop .inv .1)
+    (sym (c .before .before .step-of .ensures) ∙ c .enum-told2 .given .1)
 
 enum-known-node : tie.Need-enum-known-node Inv-loop μ-loop
 enum-known-node c = search needs
@@ -55,7 +56,9 @@ loop-again : tie.Need-loop-again Inv-loop μ-loop
 loop-again c =
     let h = c .before .before .before .before in
     let step = sym (c .before .before .before .step-of .ensures) ∙ c .before .node .given .1 in
-    (omega (arith, goes-on-below (next-means _ _ _ step) (2 ^ 61) (omega arith) (omega (arith, h .before .before .shared-slice-known .given (h .loop .at * 3 + 2)))), walking-step (h .loop .inv .1) step)
+    let word = h .before .before .shared-slice-known .given (h .loop .at * 3 + 2) in
+    let low = goes-on-below (next-means _ _ _ step) (2 ^ 61) (omega arith) (omega (arith, word)) in
+    (omega (arith, low), walking-step (h .loop .inv .1) step)
 
 pub walk-to-spec : {M : Type 1} → statement M
 walk-to-spec =

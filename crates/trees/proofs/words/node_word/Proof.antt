@@ -22,11 +22,9 @@ wide-requires c κs = search needs
 
 returns : tie.Need-returns
 returns c =
-    let s = c .before .before .before in
-    record {
-      is = c .wide .ensures;
-      small = omega (arith, c .wide .ensures, c .before .before .shared-slice-known .given (s .args .i * 3 + s .args .j));
-    }
+    let s = c .before .before .before .args in
+    let word = c .before .before .shared-slice-known .given (s .i * 3 + s .j) in
+    record { is = c .wide .ensures; small = omega (arith, c .wide .ensures, word) }
 
 pub node-word-spec : {M : Type 1} → statement M
 node-word-spec =

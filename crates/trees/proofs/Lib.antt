@@ -1,6 +1,8 @@
 -- Laws of trees: their sizes, *spelt*, the walk, and the search.
 pub mod Sizes
 pub mod Nodes
+pub mod LeafSpelling
+pub mod NodeSpelling
 pub mod Spelling
 pub mod Walking
 pub mod Entries

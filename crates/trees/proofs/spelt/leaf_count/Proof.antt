@@ -1,7 +1,7 @@
 -- `trees::spelt::leaf_count` meets its contract: the first word tells a cut from a leaf. Assumes nothing.
 use mathlib.Core.Path.{_∙_}
 use borrow.Author.Needs.{needs}
-use Rattle.trees.proofs.Spelling.{cut-counts-none, leaf-counts}
+use Rattle.trees.proofs.LeafSpelling.{cut-counts-none, leaf-counts}
 use Rattle.trees.proofs.spelt.leaf_count.Statement.{statement}
 use Rattle.trees.proofs.spelt.leaf_count.Tie as tie
 

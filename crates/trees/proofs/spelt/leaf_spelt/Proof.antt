@@ -5,7 +5,8 @@ use borrow.Author.Needs.{needs}
 use Rattle.facts.specs.Lists.{allUnder}
 use Rattle.trees.specs.Words.{startOf}
 use Rattle.trees.specs.Spelt.{countsBelow}
-use Rattle.trees.proofs.Spelling.{start-wrong, count-wrong, end-wrong, entries-decide, part-is-entries}
+use Rattle.trees.proofs.LeafSpelling.{start-wrong, count-wrong, end-wrong, entries-decide}
+use Rattle.trees.proofs.Spelling.{part-is-entries}
 use Rattle.trees.proofs.spelt.leaf_spelt.Statement.{statement}
 use Rattle.trees.proofs.spelt.leaf_spelt.Tie as tie
 

@@ -4,7 +4,7 @@ use native.Mathlib.Omega.{arith}
 use mathlib.Core.Path.{_≡_, sym, _∙_}
 use borrow.Author.Needs.{needs}
 use Rattle.trees.specs.Words.{leafMark, fieldOf}
-use Rattle.trees.proofs.Spelling.{first-wrong, child-fine, child-wrong, leaf-fine, leaf-wrong}
+use Rattle.trees.proofs.NodeSpelling.{first-wrong, child-fine, child-wrong, leaf-fine, leaf-wrong}
 use Rattle.trees.proofs.spelt.node_verdict.Statement.{statement}
 use Rattle.trees.proofs.spelt.node_verdict.Tie as tie
 

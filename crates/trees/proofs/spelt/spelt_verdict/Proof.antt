@@ -14,7 +14,9 @@ use Rattle.refusals.proofs.Order.{holds-fine, fails-refused}
 use Rattle.refusals.proofs.Turns.{Head, head-first, head-step, head-stop, head-last}
 use Rattle.trees.specs.Words.{nodeCount}
 use Rattle.trees.specs.Spelt.{countsBelow, nodeVerdict, speltVerdict}
-use Rattle.trees.proofs.Spelling.{counts-first, sum-goes-on, counts-decide, nodes-refuse}
+use Rattle.trees.proofs.LeafSpelling.{counts-first}
+use Rattle.trees.proofs.NodeSpelling.{sum-goes-on}
+use Rattle.trees.proofs.Spelling.{counts-decide, nodes-refuse}
 use Rattle.trees.proofs.spelt.spelt_verdict.Statement.{statement}
 use Rattle.trees.proofs.spelt.spelt_verdict.Tie as tie
 

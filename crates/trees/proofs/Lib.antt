@@ -5,6 +5,7 @@ pub mod LeafSpelling
 pub mod NodeSpelling
 pub mod Spelling
 pub mod Walking
+pub mod WalkLoop
 pub mod Entries
 pub mod Reaching
 pub mod Unique

@@ -5,8 +5,8 @@ use native.Mathlib.Omega.{arith}
 use mathlib.Core.Path.{sym, _∙_}
 use borrow.Author.Needs.{needs}
 use Rattle.trees.specs.Words.{nodeCount}
-use Rattle.trees.proofs.Walking.{Walking, walking-first, walking-lost, walking-came, walking-step}
 use Rattle.trees.proofs.Walking.{next-means, goes-on-rises, goes-on-below}
+use Rattle.trees.proofs.WalkLoop.{Walking, walking-first, walking-lost, walking-came, walking-step}
 use Rattle.trees.proofs.walk.walk_to.Statement.{statement}
 use Rattle.trees.proofs.walk.walk_to.Tie as tie
 

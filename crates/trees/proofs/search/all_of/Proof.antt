@@ -3,7 +3,7 @@
 use mathlib.Core.Path.{sym, _∙_}
 use borrow.Author.Needs.{needs}
 use Rattle.refusals.proofs.Order.{room-fine-iff}
-use Rattle.trees.proofs.Reaching.{leaf-short, leaf-listed}
+use Rattle.trees.proofs.Answers.{leaf-short, leaf-listed}
 use Rattle.trees.proofs.search.all_of.Statement.{statement}
 use Rattle.trees.proofs.search.all_of.Tie as tie
 

@@ -4,7 +4,8 @@ use native.Mathlib.Omega.{arith}
 use mathlib.Core.Path.{subst}
 use borrow.Author.Needs.{needs}
 use Rattle.trees.specs.Steps.{Reaches}
-use Rattle.trees.proofs.Reaching.{AtReached, at-reached, part-within, part-comparable, first-at-leaf, first-refused}
+use Rattle.trees.proofs.Answers.{AtReached, at-reached, part-within, part-comparable}
+use Rattle.trees.proofs.Answers.{first-at-leaf, first-refused}
 use Rattle.trees.proofs.search.tree_first.Statement.{statement}
 use Rattle.trees.proofs.search.tree_first.Tie as tie
 

@@ -35,12 +35,12 @@ module _ (rs nodes pool h : List ℕ) where
     pub words : AtLeaf nodes (leafOf (walkOf nodes h)) s k
     pub seen : n ≡ visited (walkOf nodes h)
 
-  -- a search that comes to a leaf tells this
+  -- where a leaf was reached the search is fine so far, and these are its words and the nodes visited
   pub at-reached : {s k n : ℕ} → Reaches rs nodes pool h (reached.Leaf s k n) → AtReached s k n
   at-reached (Reaches.comes e a q) = record { fine = e; words = a; seen = q }
 
   module _ {s k n : ℕ} (a : AtReached s k n) where
-    -- the leaf is not refused
+    -- a leaf that was reached is fine
     leaf-fine : leafVerdict rs nodes pool (leafOf (walkOf nodes h)) ≡ Fine
     unfolding treeVerdict
     leaf-fine = then-fine-iff _ _ .0 (then-fine-iff _ _ .0 (a .fine) .1) .1
@@ -50,7 +50,7 @@ module _ (rs nodes pool h : List ℕ) where
     unfolding leafList
     part-is-leaf = part-is-entries nodes pool (leafOf (walkOf nodes h)) s k (a .words .start-is) (a .words .count-is)
 
-    -- they lie within the pool
+    -- the leaf's entries lie within the pool
     pub part-within : s + k ≤ length pool
     unfolding leafVerdict
     part-within =
@@ -59,7 +59,7 @@ module _ (rs nodes pool h : List ℕ) where
         let l = leb-true (startOf nodes i + countOf nodes i) (length pool) (fine-iff-holds _ _ .0 t) in
         rw (a .words .start-is, a .words .count-is) l
 
-    -- they can be compared with the header
+    -- the leaf's entries can be compared with the header
     pub part-comparable : Comparable rs h (take (s + k - s) (drop s pool))
     unfolding leafVerdict treeVerdict leafList
     part-comparable =
@@ -68,12 +68,12 @@ module _ (rs nodes pool h : List ℕ) where
           known = rw part-is-leaf (fine-iff-holds _ _ .0 (then-fine-iff _ _ .0 leaf-fine .1));
         }
 
-    -- those of them that match are the matches of the tree
+    -- the entries of this part that match are those that the tree gives
     list : keep (matches rs h) (take (s + k - s) (drop s pool)) ≡ treeList rs nodes pool h
     unfolding treeList
     list = ap (keep (matches rs h)) part-is-leaf
 
-    -- what is said of them is what the search for all matches says
+    -- what is said of the leaf's entries is what the search for all matches says
     pub all-at-leaf :
         {before after : List ℕ} {r : TreeListed} → LeafListed rs h (take (s + k - s) (drop s pool)) n before r after →
         TreeAllSearched rs nodes pool h before r after
@@ -89,14 +89,14 @@ module _ (rs nodes pool h : List ℕ) where
             roomVerdict (length (treeList rs nodes pool h)) (length before)
         room = then-fine _ (a .fine)
 
-    -- what is said of them is what the search for the first match says
+    -- what is said of the leaf's entries is what the search for the first match says
     pub first-at-leaf :
         {r : TreeFirst} → LeafFirst rs h (take (s + k - s) (drop s pool)) n r → TreeFirstSearched rs nodes pool h r
     unfolding treeFirst
     first-at-leaf w =
         record { answers = rw (list, a .seen, part-is-leaf) at (w .answers) ∙ sym (giving-fine _ (a .fine)) }
 
-  -- a refusal on the way is the answer, and the words are as found
+  -- a refusal on the way is the answer of the search for all matches, and the words are as found
   pub all-refused :
       {why : Refusal} (before : List ℕ) → Reaches rs nodes pool h (reached.Refused why) →
       TreeAllSearched rs nodes pool h before (listed.Refused why) before
@@ -105,7 +105,7 @@ module _ (rs nodes pool h : List ℕ) where
       let v = then-refused (roomVerdict (length (treeList rs nodes pool h)) (length before)) e in
       record { answers = sym (giving-refused _ v); leaves = sym (leaving-refused _ _ v) }
 
-  -- a refusal on the way is the answer
+  -- a refusal on the way is the answer of the search for the first match
   pub first-refused :
       {why : Refusal} → Reaches rs nodes pool h (reached.Refused why) →
       TreeFirstSearched rs nodes pool h (first.Refused why)
@@ -121,7 +121,7 @@ module _ (rs h l : List ℕ) (seen : ℕ) where
       LeafListed rs h l seen before (listed.Refused why) before
   leaf-short before v = record { answers = sym (giving-refused _ v); leaves = sym (leaving-refused _ _ v) }
 
-  -- else the answer is how many match, and they are written
+  -- with room enough the answer is how many match, and they are written
   pub leaf-listed :
       {n : ℕ} (before : List ℕ) {after : List ℕ} →
       roomVerdict (length (keep (matches rs h) l)) (length before) ≡ Fine → Kept rs h l before n after →

@@ -16,12 +16,12 @@ use Rattle.trees.specs.Spelt.{leafCount, countsBelow, leafSpelt, SpeltLe
 
 -- ---- the counts
 
--- below the first node there are no counts
+-- the counts below node 0 sum to 0
 pub counts-first : (nodes : List ℕ) → 0 ≡ countsBelow nodes 0
 unfolding countsBelow
 counts-first nodes = refl
 
--- one more node adds its leaf's count
+-- the counts below the next node are those below this one and its own
 pub counts-step : (nodes : List ℕ) (i : ℕ) → countsBelow nodes (i + 1) ≡ countsBelow nodes i + leafCount nodes i
 unfolding countsBelow
 counts-step nodes i = rw add-one
@@ -61,7 +61,7 @@ module _ (n : ℕ) (nodes pool : List ℕ) (i : ℕ) where
             lt-leb (startOf nodes i + countOf nodes i) (length pool) l,
           )
 
-      -- else the entries decide
+      -- where start, count and end are right the entries decide
       pub entries-decide :
           startOf nodes i + countOf nodes i ≤ length pool → {t : Bool} → t ≡ allUnder n (entries nodes pool i) →
           t ≡ leafSpelt n nodes pool i

@@ -24,6 +24,7 @@ module _ (n : ℕ) (nodes pool : List ℕ) (i : ℕ) where
   unfolding nodeVerdict
   first-wrong l = sym (then-refused _ (fails-refused _ (lt-leb (fieldOf nodes i) leafMark l)))
 
+  -- the right child of a cut decides
   cut-decides :
       fieldOf nodes i < leafMark →
       nodeVerdict n nodes pool i ≡ refuseUnless (ltb (childOf nodes i) (nodeCount nodes)) (NodeWrong i)
@@ -32,6 +33,7 @@ module _ (n : ℕ) (nodes pool : List ℕ) (i : ℕ) where
       then-fine _ (holds-fine _ (le-leb (fieldOf nodes i) leafMark (omega arith))) ∙
       rw (lt-ltb (fieldOf nodes i) leafMark l)
 
+  -- at the mark the tests of a leaf decide
   leaf-decides :
       fieldOf nodes i ≡ leafMark →
       nodeVerdict n nodes pool i ≡ refuseUnless (leafSpelt n nodes pool i) (LeafWrong i)
@@ -54,17 +56,18 @@ module _ (n : ℕ) (nodes pool : List ℕ) (i : ℕ) where
   pub leaf-fine : fieldOf nodes i ≡ leafMark → leafSpelt n nodes pool i ≡ true → Fine ≡ nodeVerdict n nodes pool i
   leaf-fine e t = sym (leaf-decides e ∙ holds-fine _ t)
 
-  -- a leaf that is not is wrong
+  -- a leaf that is not spelt is wrong
   pub leaf-wrong :
       fieldOf nodes i ≡ leafMark → leafSpelt n nodes pool i ≡ false → Refused (LeafWrong i) ≡ nodeVerdict n nodes pool i
   leaf-wrong e t = sym (leaf-decides e ∙ fails-refused _ t)
 
-  -- a node that is spelt
+  -- a node that is spelt: its first word is at most the mark, a cut's child is a node, and a leaf is spelt
   pub record SpeltNode : Type 0 where
     pub first : fieldOf nodes i ≤ leafMark
     pub child : fieldOf nodes i < leafMark → childOf nodes i < nodeCount nodes
     pub leaf : leafMark ≤ fieldOf nodes i → SpeltLeaf n nodes pool i
 
+  -- the first word of a node that is fine is at most the mark
   first-fine : nodeVerdict n nodes pool i ≡ Fine → fieldOf nodes i ≤ leafMark
   unfolding nodeVerdict
   first-fine e = leb-true (fieldOf nodes i) leafMark (fine-iff-holds _ _ .0 (then-fine-iff _ _ .0 e .0))
@@ -105,7 +108,7 @@ module _ (n : ℕ) (nodes pool : List ℕ) (i : ℕ) where
           omega (arith, s .start, s .within, leaf-counts nodes i l)
       go (over l) = omega (arith, cut-counts-none nodes i l)
 
-  -- so the sum goes on: with the count of a node that is fine it is that of one node more, and within the pool
+  -- with the count of a node that is fine the sum is that of one node more, and within the pool
   pub sum-goes-on :
       {sum k : ℕ} → nodeVerdict n nodes pool i ≡ Fine → sum ≡ countsBelow nodes i → sum ≤ length pool →
       k ≡ leafCount nodes i → (sum + k ≡ countsBelow nodes (i + 1)) × (sum + k ≤ length pool)

@@ -58,7 +58,7 @@ module _ (rs nodes pool : List ℕ) (leaf seen : ℕ) where
       pub leaf-unknown : not t ≡ true → LeafJudged rs nodes pool leaf seen (reached.Refused (LeafWrong leaf))
       leaf-unknown n = LeafJudged.refuses (decides ∙ fails-refused _ (failed same n))
 
-      -- else these are the leaf's words
+      -- where each entry names a rule these are the leaf's words
       pub leaf-known : not t ≡ false → LeafJudged rs nodes pool leaf seen (reached.Leaf s k seen)
       leaf-known n =
           LeafJudged.holds (decides ∙ holds-fine _ (held same n)) (record { start-is = es; count-is = ek }) refl
@@ -74,7 +74,7 @@ walked-lost : (w : Walk) {i : ℕ} → ends.Lost i ≡ walked w → w ≡ lost i
 walked-lost (lost j) {i} e = let q : j ≡ i = cc in ap lost q
 walked-lost (came cuts leaf) e = clash-walked e
 
--- a walk that ends at a leaf came there
+-- a walk that ends at a leaf is fine, came there, and visited so many nodes
 walked-came :
     (w : Walk) {leaf n : ℕ} → ends.Came leaf n ≡ walked w → (walkVerdict w ≡ Fine) × (leafOf w ≡ leaf) × (n ≡ visited w)
 walked-came (lost j) e = clash-walked (sym e)
@@ -127,7 +127,7 @@ module _ (rs nodes pool h : List ℕ) where
     reach-lost e =
         Reaches.refuses (then-fine _ legal ∙ then-refused _ (ap walkVerdict (walked-lost (walkOf nodes h) e)))
 
-    -- else the leaf decides
+    -- where the walk comes to a leaf, that leaf decides
     pub reach-leaf :
         {leaf n : ℕ} {r : Reached} → ends.Came leaf n ≡ walked (walkOf nodes h) → LeafJudged rs nodes pool leaf n r →
         Reaches rs nodes pool h r

@@ -25,7 +25,7 @@ unfolding entries
 part-is-entries nodes pool i s k p q = let e : s + k - s ≡ k = omega arith in rw (e, p, q)
 
 module _ (n : ℕ) (nodes pool : List ℕ) where
-  -- where the nodes are fine the counts decide
+  -- where all nodes are fine the sum of the counts decides
   pub counts-decide :
       {sum : ℕ} → inTurn (nodeCount nodes) 0 (nodeVerdict n nodes pool) ≡ Fine →
       sum ≡ countsBelow nodes (nodeCount nodes) →
@@ -33,7 +33,7 @@ module _ (n : ℕ) (nodes pool : List ℕ) where
   unfolding speltVerdict
   counts-decide e q = rw q (sym (then-fine _ e))
 
-  -- where a node is wrong, so is the tree, there
+  -- what the nodes in turn refuse, the tree refuses
   pub nodes-refuse :
       {why : Refusal} → inTurn (nodeCount nodes) 0 (nodeVerdict n nodes pool) ≡ Refused why →
       Refused why ≡ speltVerdict n nodes pool

@@ -18,13 +18,13 @@ pub after : ℕ → Walked → Walked
 after v (Lost i) = Lost i
 after v (Came leaf n) = Came leaf (v + n)
 
--- where no node has been seen, a walk ends as it does
+-- where no node was seen before, the walk ends where it ends
 after-none : (w : Walked) → after 0 w ≡ w
 unfolding after
 after-none (Lost i) = refl
 after-none (Came leaf n) = ap (Came leaf) (zero-add n)
 
--- a walk past a cut that has seen v nodes ends as the walk after it that has seen one more
+-- after v nodes a walk past a cut ends where, after one node more, the walk behind the cut ends
 after-past : (v i : ℕ) (w : Walk) → after v (walked (past i w)) ≡ after (v + 1) (walked w)
 unfolding after
 after-past v i (lost j) = refl
@@ -54,11 +54,11 @@ module _ {nodes h : List ℕ} {at seen : ℕ} (w : Walking nodes h at seen) wher
   unfolding after
   walking-lost e = sym (w .left ∙ rw (walk-wrong (nodeCount nodes - seen) nodes h at e))
 
-  -- before the last node one node more is left than after this one
+  -- at a node that is there the nodes left are one more than at the next turn
   fuel : at < nodeCount nodes → nodeCount nodes - seen ≡ suc (nodeCount nodes - (seen + 1))
   fuel l = omega (arith, w .behind)
 
-  -- a leaf ends it, one node more visited
+  -- a leaf ends the walk there, one node more visited
   pub walking-came : stepOf nodes h at ≡ Leaf → Came at (seen + 1) ≡ walked (walkOf nodes h)
   unfolding after walk
   walking-came e = sym (w .left ∙ rw (fuel (leaf-means nodes h at e .0), e))

@@ -21,7 +21,7 @@ module _ (nodes h : List ℕ) (i : ℕ) where
   unfolding sideOf
   goes-left e q l = rw (le-leb (getD h (fieldOf nodes i) 0) (valueOf nodes i) (rw (e, q) at l))
 
-  -- else it goes to the right child
+  -- a header whose field is over the value goes to the right child
   pub goes-right :
       {f v w : ℕ} → f ≡ fieldOf nodes i → v ≡ valueOf nodes i → v < getD h f 0 → w ≡ childOf nodes i →
       w ≡ sideOf nodes h i
@@ -34,12 +34,12 @@ module _ (nodes h : List ℕ) (i : ℕ) where
   step-missing l = rw (le-ltb i (nodeCount nodes) l)
 
   module _ (there : i < nodeCount nodes) where
-    -- the mark of a leaf
+    -- a node with the mark is a leaf
     pub step-leaf : fieldOf nodes i ≡ leafMark → Leaf ≡ stepOf nodes h i
     unfolding stepOf
     step-leaf e = rw (lt-ltb i (nodeCount nodes) there, eq-eqb (fieldOf nodes i) leafMark e)
 
-    -- a first word over that mark is wrong
+    -- a first word over the mark is wrong
     pub step-over : leafMark < fieldOf nodes i → Wrong ≡ stepOf nodes h i
     unfolding stepOf
     step-over l =
@@ -47,6 +47,7 @@ module _ (nodes h : List ℕ) (i : ℕ) where
         rw (lt-ltb i (nodeCount nodes) there, ne-eqb (fieldOf nodes i) leafMark ne, lt-ltb leafMark (fieldOf nodes i) l)
 
     module _ (cut : fieldOf nodes i < leafMark) where
+      -- a cut does not have the mark
       not-mark : fieldOf nodes i ≡ leafMark → ⊥
       not-mark e = omega arith
 
@@ -61,7 +62,7 @@ module _ (nodes h : List ℕ) (i : ℕ) where
             le-leb (childOf nodes i) i l,
           )
 
-      -- else the walk goes on
+      -- from a cut whose right child is above it the walk goes on to the header's side
       pub step-on : i < childOf nodes i → {j : ℕ} → j ≡ sideOf nodes h i → Next j ≡ stepOf nodes h i
       unfolding stepOf
       step-on l e =
@@ -121,14 +122,14 @@ module _ (nodes h : List ℕ) (i : ℕ) where
       go : Told Leaf → (i < nodeCount nodes) × (fieldOf nodes i ≡ leafMark)
       go (Told.leaf l m) = (l, m)
 
-  -- where the walk goes on there is a cut that it goes on from
+  -- where the walk goes on to node j there is a cut that it goes on from
   pub next-means : {j : ℕ} → stepOf nodes h i ≡ Next j → GoesOn j
   next-means {j} e = go (subst Told e told)
     where
       go : Told (Next j) → GoesOn j
       go (Told.next g) = g
 
-  -- a step on rises
+  -- where the right child is above the cut, so is the header's side
   pub side-above : i < childOf nodes i → i < sideOf nodes h i
   unfolding sideOf
   side-above l = go (leb (getD h (fieldOf nodes i) 0) (valueOf nodes i))
@@ -137,7 +138,7 @@ module _ (nodes h : List ℕ) (i : ℕ) where
       go true = omega arith
       go false = l
 
-  -- a step goes to the next node or to the right child
+  -- what bounds the next node and the right child bounds the header's side
   pub side-at-most : (m : ℕ) → i + 1 ≤ m → childOf nodes i ≤ m → sideOf nodes h i ≤ m
   unfolding sideOf
   side-at-most m l u = go (leb (getD h (fieldOf nodes i) 0) (valueOf nodes i))
@@ -151,6 +152,6 @@ module _ {nodes h : List ℕ} {i j : ℕ} (g : GoesOn nodes h i j) where
   pub goes-on-rises : i < j
   goes-on-rises = rw (g .side) (side-above nodes h i (g .above))
 
-  -- it goes on within what bounds the nodes and the right child
+  -- what bounds the number of nodes and the right child bounds the node that the walk goes on to
   pub goes-on-below : (m : ℕ) → nodeCount nodes ≤ m → childOf nodes i ≤ m → j ≤ m
   goes-on-below m l u = rw (g .side) (side-at-most nodes h i m (omega (arith, g .there)) u)

@@ -36,7 +36,7 @@ fine :
     nodeVerdict (s .rules) (s .nodes .now) (s .pool .now) (h .loop .node) ≡ Fine
 fine c = sym (c .before .before .before .node-verdict .ensures) ∙ c .before .enum-told .given .1
 
--- the sum after this node
+-- with the count of this node the sum is that below the next, and within the pool
 goes-on :
     (c : tie.After-leaf-count Inv-loop μ-loop) →
     let h = c .before .before .before .before .before in

@@ -1,5 +1,5 @@
 -- A leaf's entries, compared in turn: one entry, and the loop that stops at the first match.
-use Prim.Native.Nat.{ℕ, zero, suc, _+_, _≤_, _<_}
+use Prim.Native.Nat.{ℕ, _+_, _<_}
 use native.Mathlib.Nat.{zero-add}
 use native.Mathlib.Omega.{arith}
 use mathlib.Core.Bool.{Bool, true, false}
@@ -16,10 +16,10 @@ use Rattle.trees.specs.declared.search.TreeFirst.the-variants.{Rule, NoR
 use Rattle.trees.specs.Search.{lookedAt}
 use Rattle.trees.specs.Steps.{Comparable, LeafFirst}
 
--- an entry that names a rule is compared as the rule is
+-- whether an entry that names a rule matches is what the rule's test says
 pub compared :
-    {rs h l : List ℕ} {i x : ℕ} {t : Bool} → Comparable rs h l → i < length l → x ≡ getD l i 0 → t ≡ ruleMatches rs h x →
-    matches rs h (getD l i 0) ≡ t
+    {rs h l : List ℕ} {i x : ℕ} {t : Bool} → Comparable rs h l → i < length l → x ≡ getD l i 0 →
+    t ≡ ruleMatches rs h x → matches rs h (getD l i 0) ≡ t
 compared {rs} {h} {l} {i} w u e q =
     sym
     (q ∙ ap (ruleMatches rs h) e ∙
@@ -46,11 +46,14 @@ module _ {p : ℕ → Bool} {all rest next : List ℕ} {i x : ℕ} (w : Looking 
         looked = w .looked ∙ rw (step, t) (omega arith);
       }
 
+  -- where this entry passes, one more than those before it were looked at
   looked-found : p x ≡ true → length (lookedAt p all) ≡ i + 1
   unfolding lookedAt
   looked-found t = w .looked ∙ rw (step, t)
 
-looked-last : {p : ℕ → Bool} {all rest : List ℕ} {i : ℕ} → Looking p all rest i → rest ≡ [] → length (lookedAt p all) ≡ i
+-- where no entry is left, as many were looked at as were compared
+looked-last :
+    {p : ℕ → Bool} {all rest : List ℕ} {i : ℕ} → Looking p all rest i → rest ≡ [] → length (lookedAt p all) ≡ i
 unfolding lookedAt
 looked-last w e = w .looked ∙ rw e (omega arith)
 
@@ -61,7 +64,7 @@ module _ {rs h all rest : List ℕ} {i : ℕ} (seen : ℕ) (w : Looking (matches
   first-is {x} step t =
       record { answers = rw (w .kept ∙ keep-in (matches rs h) x step t, looked-found w step t) }
 
-  -- where no entry matches all were compared
+  -- where no entry is left none matches, and all were compared
   pub first-none : {n : ℕ} → rest ≡ [] → n ≡ i → LeafFirst rs h all seen (NoRule seen n)
   first-none step e =
       record { answers = rw (w .kept ∙ keep-none (matches rs h) step, looked-last w step, e) }

@@ -1,11 +1,9 @@
 -- One node: the tests one by one, and what stands there means.
 use Prim.Native.Nat.{ℕ, _≤_, _<_}
-use native.Mathlib.Omega.{arith}
-use mathlib.Core.Bool.{Bool, true, false, cond}
-use mathlib.Core.Path.{_≡_, refl, sym}
+use mathlib.Core.Path.{_≡_, refl, subst}
 use mathlib.Core.List.{List}
-use lib.Dec.{leb}
-use borrow.Author.Tests.{leb-true, leb-false, le-leb, lt-leb}
+use borrow.Author.Tests.{le-leb, lt-leb}
+use Rattle.facts.proofs.Cases.{Split, atMost, over, split}
 use Rattle.trees.specs.declared.words.Node.{Node}
 use Rattle.trees.specs.declared.words.Node.the-variants.{Missing, Leaf, Cut}
 use Rattle.trees.specs.Words.{leafMark, nodeCount, fieldOf, valueOf, childOf, startOf, countOf}
@@ -33,12 +31,14 @@ module _ (nodes : List ℕ) (i : ℕ) where
 
   -- ---- what stands there
 
+  -- a leaf is there, with start s and count k
   pub record IsLeaf (s k : ℕ) : Type 0 where
     pub there : i < nodeCount nodes
     pub mark : leafMark ≤ fieldOf nodes i
     pub start : s ≡ startOf nodes i
     pub count : k ≡ countOf nodes i
 
+  -- a cut is there, of field f at value v, with right child w
   pub record IsCut (f v w : ℕ) : Type 0 where
     pub there : i < nodeCount nodes
     pub below-mark : fieldOf nodes i < leafMark
@@ -46,56 +46,49 @@ module _ (nodes : List ℕ) (i : ℕ) where
     pub value : v ≡ valueOf nodes i
     pub child : w ≡ childOf nodes i
 
-  missing-leaf {ℓ} : {A : Type ℓ} {s k : ℕ} → Missing ≡ Leaf s k → A
-  missing-leaf e = let z : _≡_ {A = ℕ} 0 1 = cc in absurd (omega arith)
+  -- what is known of node i by what stands there
+  data Told : Node → Type 0 where
+    missing : nodeCount nodes ≤ i → Told Missing
+    leaf : {s k : ℕ} → IsLeaf s k → Told (Leaf s k)
+    cut : {f v w : ℕ} → IsCut f v w → Told (Cut f v w)
 
-  missing-cut {ℓ} : {A : Type ℓ} {f v w : ℕ} → Missing ≡ Cut f v w → A
-  missing-cut e = let z : _≡_ {A = ℕ} 0 1 = cc in absurd (omega arith)
+  -- the words of a node that is there tell a leaf from a cut
+  there-told : i < nodeCount nodes → Told (nodeAt nodes i)
+  there-told l = go (split leafMark (fieldOf nodes i))
+    where
+      go : Split leafMark (fieldOf nodes i) → Told (nodeAt nodes i)
+      go (atMost m) =
+          subst Told (node-leaf l m refl refl)
+          (Told.leaf (record { there = l; mark = m; start = refl; count = refl }))
+      go (over m) =
+          subst Told (node-cut l m refl refl refl)
+          (Told.cut (record { there = l; below-mark = m; field = refl; value = refl; child = refl }))
 
-  leaf-cut {ℓ} : {A : Type ℓ} {s k f v w : ℕ} → Leaf s k ≡ Cut f v w → A
-  leaf-cut e = let z : _≡_ {A = ℕ} 0 1 = cc in absurd (omega arith)
+  -- the words tell what stands there
+  told : Told (nodeAt nodes i)
+  told = go (split (nodeCount nodes) i)
+    where
+      go : Split (nodeCount nodes) i → Told (nodeAt nodes i)
+      go (atMost l) = subst Told (node-missing l) (Told.missing l)
+      go (over l) = there-told l
 
   -- where none is there, the number is past the last node
   pub missing-means : nodeAt nodes i ≡ Missing → nodeCount nodes ≤ i
-  unfolding nodeAt
-  missing-means e = go (leb (nodeCount nodes) i) refl (leb leafMark (fieldOf nodes i)) refl
+  missing-means e = go (subst Told e told)
     where
-      go : (a : Bool) → leb (nodeCount nodes) i ≡ a → (b : Bool) → leb leafMark (fieldOf nodes i) ≡ b → nodeCount nodes ≤ i
-      go true p b q = leb-true (nodeCount nodes) i p
-      go false p true q = missing-leaf (sym (rw (p, q) at e))
-      go false p false q = missing-cut (sym (rw (p, q) at e))
+      go : Told Missing → nodeCount nodes ≤ i
+      go (Told.missing l) = l
 
   -- a leaf is there, and these are its words
   pub leaf-is : {s k : ℕ} → nodeAt nodes i ≡ Leaf s k → IsLeaf s k
-  unfolding nodeAt
-  leaf-is {s} {k} e = go (leb (nodeCount nodes) i) refl (leb leafMark (fieldOf nodes i)) refl
+  leaf-is {s} {k} e = go (subst Told e told)
     where
-      go : (a : Bool) → leb (nodeCount nodes) i ≡ a → (b : Bool) → leb leafMark (fieldOf nodes i) ≡ b → IsLeaf s k
-      go true p b q = missing-leaf (rw p at e)
-      go false p true q =
-          let t : Leaf (startOf nodes i) (countOf nodes i) ≡ Leaf s k = rw (p, q) at e in
-          record {
-            there = leb-false (nodeCount nodes) i p;
-            mark = leb-true leafMark (fieldOf nodes i) q;
-            start = cc;
-            count = cc;
-          }
-      go false p false q = leaf-cut (sym (rw (p, q) at e))
+      go : Told (Leaf s k) → IsLeaf s k
+      go (Told.leaf m) = m
 
   -- a cut is there, and these are its words
   pub cut-is : {f v w : ℕ} → nodeAt nodes i ≡ Cut f v w → IsCut f v w
-  unfolding nodeAt
-  cut-is {f} {v} {w} e = go (leb (nodeCount nodes) i) refl (leb leafMark (fieldOf nodes i)) refl
+  cut-is {f} {v} {w} e = go (subst Told e told)
     where
-      go : (a : Bool) → leb (nodeCount nodes) i ≡ a → (b : Bool) → leb leafMark (fieldOf nodes i) ≡ b → IsCut f v w
-      go true p b q = missing-cut (rw p at e)
-      go false p true q = leaf-cut (rw (p, q) at e)
-      go false p false q =
-          let t : Cut (fieldOf nodes i) (valueOf nodes i) (childOf nodes i) ≡ Cut f v w = rw (p, q) at e in
-          record {
-            there = leb-false (nodeCount nodes) i p;
-            below-mark = leb-false leafMark (fieldOf nodes i) q;
-            field = cc;
-            value = cc;
-            child = cc;
-          }
+      go : Told (Cut f v w) → IsCut f v w
+      go (Told.cut m) = m

@@ -16,6 +16,7 @@ use Rattle.trees.specs.TreeFirst as one
 
 -- ---- the paper tells the answers apart
 
+-- answers of the search for all matches that are the same on paper are the same
 listed-of-paper : (r s : TreeListed) → all.paper r ≡ all.paper s → r ≡ s
 listed-of-paper (listed.Refused a) (listed.Refused b) e = ap listed.Refused (on-paper-unique a b e)
 listed-of-paper (listed.Refused a) (listed.Found n v w) e = refusal-not-success e
@@ -27,6 +28,7 @@ some-not-none {ℓ} :
     {A : Type ℓ} (n : ℕ) {v w v' w' : ℕ} → success ((n + 1) ∷ v ∷ w ∷ []) ≡ success (0 ∷ v' ∷ w' ∷ []) → A
 some-not-none n e = let z : n + 1 ≡ 0 = cc in absurd (omega arith)
 
+-- answers of the search for the first match that are the same on paper are the same
 first-of-paper : (r s : TreeFirst) → one.paper r ≡ one.paper s → r ≡ s
 first-of-paper (first.Refused a) (first.Refused b) e = ap first.Refused (on-paper-unique a b e)
 first-of-paper (first.Refused a) (first.Rule n v w) e = refusal-not-success e

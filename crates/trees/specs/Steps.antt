@@ -73,7 +73,8 @@ pub record LeafListed (rs h l : List ℕ) (seen : ℕ) (before : List ℕ) (r : 
       (length (keep (matches rs h) l) ∷ seen ∷ length l ∷ []))
   pub leaves :
       after ≡
-      leaving (roomVerdict (length (keep (matches rs h) l)) (length before)) (written (keep (matches rs h) l) before) before
+      leaving (roomVerdict (length (keep (matches rs h) l)) (length before)) (written (keep (matches rs h) l) before)
+      before
 
 pub record LeafFirst (rs h l : List ℕ) (seen : ℕ) (r : TreeFirst) : Type 0 where
   pub answers :

@@ -3,7 +3,7 @@
 use mathlib.Core.Path.{sym, _∙_}
 use borrow.Author.Needs.{needs}
 use Rattle.refusals.proofs.Order.{room-fine-iff}
-use Rattle.trees.proofs.Reaching.{leaf-short, leaf-listed}
+use Rattle.trees.proofs.Answers.{leaf-short, leaf-listed}
 use Rattle.trees.proofs.search.all_of.Statement.{statement}
 use Rattle.trees.proofs.search.all_of.Tie as tie
 
@@ -31,7 +31,8 @@ same-length c = search needs
 returns-2 : tie.Need-returns-2
 returns-2 c =
     let w = c .before .before in
-    leaf-listed _ _ _ _ _ (sym (w .before .before .before .before .room-verdict .ensures) ∙ w .before .before .enum-told .given .1)
+    leaf-listed _ _ _ _ _
+    (sym (w .before .before .before .before .room-verdict .ensures) ∙ w .before .before .enum-told .given .1)
     (w .write-entries .ensures)
 
 pub all-of-spec : {M : Type 1} → statement M

@@ -15,7 +15,9 @@ add-if1 : tie.Need-add-if1
 add-if1 c = omega arith
 
 returns : tie.Need-returns
-returns c = leaf-past _ _ _ _ _ (c .before .before .node-word .ensures .is) (c .before .node-word2 .ensures .is) (c .if1 .taken)
+returns c =
+    leaf-past _ _ _ _ _ (c .before .before .node-word .ensures .is) (c .before .node-word2 .ensures .is)
+    (c .if1 .taken)
 
 add-end : tie.Need-add-end
 add-end c = omega arith
@@ -38,14 +40,14 @@ all-under-requires c κs = search needs
 returns-2 : tie.Need-returns-2
 returns-2 c =
     let w = c .before .before .before in
-    leaf-unknown _ _ _ _ _ (w .before .before .node-word .ensures .is) (w .before .node-word2 .ensures .is) (w .if1 .left)
-    (c .before .all-under .ensures) (c .if2 .taken)
+    leaf-unknown _ _ _ _ _ (w .before .before .node-word .ensures .is) (w .before .node-word2 .ensures .is)
+    (w .if1 .left) (c .before .all-under .ensures) (c .if2 .taken)
 
 returns-3 : tie.Need-returns-3
 returns-3 c =
     let w = c .before .before .before in
-    leaf-known _ _ _ _ _ (w .before .before .node-word .ensures .is) (w .before .node-word2 .ensures .is) (w .if1 .left)
-    (c .before .all-under .ensures) (c .if2 .left)
+    leaf-known _ _ _ _ _ (w .before .before .node-word .ensures .is) (w .before .node-word2 .ensures .is)
+    (w .if1 .left) (c .before .all-under .ensures) (c .if2 .left)
 
 pub at-leaf-spec : {M : Type 1} → statement M
 at-leaf-spec =

@@ -2,7 +2,7 @@
 -- from here on, are all that match. Assumes nothing.
 use Prim.Native.Nat.{_≤_, _-_}
 use native.Mathlib.Omega.{arith}
-use mathlib.Core.Path.{_≡_, _∙_}
+use mathlib.Core.Path.{_∙_}
 use mathlib.Core.Logic.{⊎-elim}
 use lib.ListN.{length, drop}
 use borrow.Author.Needs.{needs}
@@ -48,7 +48,9 @@ loop-again c =
     let h = c .before .before .before .before .before in
     let turn = c .before .before .before .before .loop-test .taken in
     let step = drop-step _ (h .loop .i) turn in
-    let said = compared (h .before .before .before .before .pre) turn (c .before .before .wide .ensures) (c .before .rule-matches .ensures) in
+    let said =
+    compared (h .before .before .before .before .pre) turn (c .before .before .wide .ensures)
+    (c .before .rule-matches .ensures) in
     ⊎-elim
     (λ w. (omega arith, omega (arith, w .1), rw (w .1) (counted-in (h .loop .inv .2) step (said ∙ w .0 .taken))))
     (λ w. (omega arith, omega (arith, w .1), rw (w .1) (counted-out (h .loop .inv .2) step (said ∙ w .0 .left))))

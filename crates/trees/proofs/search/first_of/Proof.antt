@@ -2,7 +2,7 @@
 use Prim.Native.Nat.{_≤_, _-_}
 use native.Mathlib.Omega.{arith}
 use mathlib.Core.Path.{_≡_, _∙_}
-use lib.ListN.{length, drop}
+use lib.ListN.{length, drop, getD}
 use borrow.Author.Needs.{needs}
 use Rattle.facts.proofs.Steps.{drop-step, drop-end}
 use Rattle.rules.specs.Matching.{matches}
@@ -15,6 +15,17 @@ Inv-loop rules header leaf visited i₀ i = (i ≤ length leaf) × Looking (matc
 
 abbrev μ-loop : tie.MeasureT-loop
 μ-loop rules header leaf visited i₀ i = length leaf - i
+
+-- what the code says of the entry at hand is whether it matches
+said :
+    (c : tie.After-rule-matches Inv-loop μ-loop) →
+    let h = c .before .before .before .before in
+    let s = h .before .before .before .before .args in
+    matches (s .rules .now) (s .header .now) (getD (s .leaf .now) (h .loop .i) 0) ≡ c .rule-matches .result
+said c =
+    let h = c .before .before .before .before in
+    compared (h .before .before .before .before .pre) (c .before .before .before .loop-test .taken)
+    (c .before .wide .ensures) (c .rule-matches .ensures)
 
 loop-holds : tie.Need-loop-holds Inv-loop μ-loop
 loop-holds c = (omega arith, looking-first _ _)
@@ -38,10 +49,7 @@ returns : tie.Need-returns Inv-loop μ-loop
 returns c =
     let h = c .before .before .before .before .before in
     let turn = c .before .before .before .before .loop-test .taken in
-    let said =
-    compared (h .before .before .before .before .pre) turn (c .before .before .wide .ensures)
-    (c .before .rule-matches .ensures) in
-    first-is _ (h .loop .inv .1) (drop-step _ (h .loop .i) turn) (said ∙ c .if1 .taken)
+    first-is _ (h .loop .inv .1) (drop-step _ (h .loop .i) turn) (said (c .before) ∙ c .if1 .taken)
 
 add-i : tie.Need-add-i Inv-loop μ-loop
 add-i c = omega arith
@@ -53,10 +61,7 @@ loop-again : tie.Need-loop-again Inv-loop μ-loop
 loop-again c =
     let h = c .before .before .before .before .before in
     let turn = c .before .before .before .before .loop-test .taken in
-    let said =
-    compared (h .before .before .before .before .pre) turn (c .before .before .wide .ensures)
-    (c .before .rule-matches .ensures) in
-    (omega arith, looking-step (h .loop .inv .1) (drop-step _ (h .loop .i) turn) (said ∙ c .if1 .left))
+    (omega arith, looking-step (h .loop .inv .1) (drop-step _ (h .loop .i) turn) (said (c .before) ∙ c .if1 .left))
 
 returns-2 : tie.Need-returns-2 Inv-loop μ-loop
 returns-2 c = first-none _ (c .before .loop .inv .1) (drop-end _ _ (c .loop-test .left)) (omega arith)

@@ -1,10 +1,18 @@
 -- `trees::search::reach` meets its contract: the header decides first, then the walk, then the leaf. Assumes nothing.
-use mathlib.Core.Path.{sym, _∙_}
+use mathlib.Core.Path.{_≡_, sym, _∙_}
 use borrow.Author.Needs.{needs}
+use Rattle.refusals.specs.declared.Verdict.the-variants.{Fine}
+use Rattle.fields.specs.Headers.{headerVerdict}
 use Rattle.fields.proofs.Headers.{legal-iff}
 use Rattle.trees.proofs.Reaching.{reach-header, reach-lost, reach-leaf, leaf-there}
 use Rattle.trees.proofs.search.reach.Statement.{statement}
 use Rattle.trees.proofs.search.reach.Tie as tie
+
+-- a header that is not refused is fine
+legal :
+    (c : tie.After-enum-told) →
+    headerVerdict (c .before .before .before .before .before .before .before .args .header .now) ≡ Fine
+legal c = sym (c .before .before .header-verdict .ensures) ∙ c .enum-told .given .1
 
 header-verdict-requires : tie.Need-header-verdict-requires
 header-verdict-requires c κs = search needs
@@ -16,7 +24,7 @@ enum-told : tie.Need-enum-told
 enum-told c = search needs
 
 walk-to-requires : tie.Need-walk-to-requires
-walk-to-requires c κs = legal-iff _ .0 (sym (c .before .before .header-verdict .ensures) ∙ c .enum-told .given .1) .0
+walk-to-requires c κs = legal-iff _ .0 (legal c) .0
 
 enum-known-node : tie.Need-enum-known-node
 enum-known-node c = search needs
@@ -33,14 +41,13 @@ returns c = reach-header _ _ _ _ (sym (c .before .before .before .header-verdict
 returns-2 : tie.Need-returns-2
 returns-2 c =
     let w = c .before .before .before in
-    reach-lost _ _ _ _ (sym (w .before .before .before .header-verdict .ensures) ∙ w .before .enum-told .given .1)
-    (sym (c .before .node .given .1) ∙ w .walk-to .ensures)
+    reach-lost _ _ _ _ (legal (w .before)) (sym (c .before .node .given .1) ∙ w .walk-to .ensures)
 
 returns-3 : tie.Need-returns-3
 returns-3 c =
     let w = c .before .before .before .before in
-    reach-leaf _ _ _ _ (sym (w .before .before .before .header-verdict .ensures) ∙ w .before .enum-told .given .1)
-    (sym (c .before .before .leaf .given .1) ∙ w .walk-to .ensures) (c .at-leaf .ensures)
+    reach-leaf _ _ _ _ (legal (w .before)) (sym (c .before .before .leaf .given .1) ∙ w .walk-to .ensures)
+    (c .at-leaf .ensures)
 
 pub reach-spec : {M : Type 1} → statement M
 reach-spec =

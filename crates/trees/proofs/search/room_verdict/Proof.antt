@@ -1,7 +1,7 @@
 -- `trees::search::room_verdict` meets its contract: no more match than there are, and else the count decides.
 -- Assumes nothing.
 use native.Mathlib.Omega.{arith}
-use mathlib.Core.Path.{_≡_, sym}
+use mathlib.Core.Path.{sym}
 use borrow.Author.Needs.{needs}
 use Rattle.facts.proofs.Counting.{keep-at-most}
 use Rattle.refusals.proofs.Order.{room-short, room-fine-iff}

@@ -1,10 +1,11 @@
--- `trees::search::tree_all` meets its contract: a refusal on the way writes nothing, and at the leaf the entries decide.
--- Assumes nothing.
+-- `trees::search::tree_all` meets its contract: a refusal on the way writes nothing, and at the leaf the entries
+-- decide. Assumes nothing.
 use native.Mathlib.Omega.{arith}
 use mathlib.Core.Path.{subst}
 use borrow.Author.Needs.{needs}
 use Rattle.trees.specs.Steps.{Reaches}
-use Rattle.trees.proofs.Reaching.{AtReached, at-reached, part-within, part-comparable, all-at-leaf, all-refused}
+use Rattle.trees.proofs.Answers.{AtReached, at-reached, part-within, part-comparable}
+use Rattle.trees.proofs.Answers.{all-at-leaf, all-refused}
 use Rattle.trees.proofs.search.tree_all.Statement.{statement}
 use Rattle.trees.proofs.search.tree_all.Tie as tie
 
@@ -14,7 +15,9 @@ here :
     let s = c .before .before .before .before .before .before .before .before .before .args in
     AtReached (s .rules .now) (s .nodes .now) (s .pool .now) (s .header .now) (c .before .start .given .0 .0)
     (c .before .start .given .0 .1 .0) (c .before .start .given .0 .1 .1 .0)
-here c = at-reached _ _ _ _ (subst (Reaches _ _ _ _) (c .before .start .given .1) (c .before .before .before .reach .ensures))
+here c =
+    at-reached _ _ _ _
+    (subst (Reaches _ _ _ _) (c .before .start .given .1) (c .before .before .before .reach .ensures))
 
 reach-requires : tie.Need-reach-requires
 reach-requires c κs = search needs
@@ -44,7 +47,9 @@ all-of-requires : tie.Need-all-of-requires
 all-of-requires c κs = part-comparable _ _ _ _ (here (c .before .before))
 
 returns : tie.Need-returns
-returns c = all-refused _ _ _ _ _ (subst (Reaches _ _ _ _) (c .before .why .given .1) (c .before .before .before .reach .ensures))
+returns c =
+    all-refused _ _ _ _ _
+    (subst (Reaches _ _ _ _) (c .before .why .given .1) (c .before .before .before .reach .ensures))
 
 same-length : tie.Need-same-length
 same-length c = search needs

@@ -15,21 +15,33 @@ use Rattle.trees.proofs.search.write_entries.Statement.{statement}
 use Rattle.trees.proofs.search.write_entries.Tie as tie
 
 abbrev Inv-loop : tie.InvT-loop
-Inv-loop rules header leaf out₀ n₀ i₀ out n i = (i ≤ length leaf) × (n ≤ i) × Filled (matches rules header) leaf (drop i leaf) out₀ out n
+Inv-loop rules header leaf out₀ n₀ i₀ out n i =
+    (i ≤ length leaf) × (n ≤ i) × Filled (matches rules header) leaf (drop i leaf) out₀ out n
 
 abbrev μ-loop : tie.MeasureT-loop
 μ-loop rules header leaf out₀ n₀ i₀ out n i = length leaf - i
 
+-- what the code says of the entry at hand is whether it matches
+said :
+    (c : tie.After-rule-matches Inv-loop μ-loop) →
+    let h = c .before .before .before .before in
+    let s = h .before .before .before .before .before .args in
+    matches (s .rules .now) (s .header .now) (getD (s .leaf .now) (h .loop .i) 0) ≡ c .rule-matches .result
+said c =
+    let h = c .before .before .before .before in
+    compared (h .before .before .before .before .before .pre .0) (c .before .before .before .loop-test .taken)
+    (c .before .wide .ensures) (c .rule-matches .ensures)
+
 -- an entry that matches has a word to stand in
 room-now :
     (c : tie.Then1 Inv-loop μ-loop) →
-    c .before .before .before .before .before .loop .n < length (c .before .before .before .before .before .loop .out)
+    let h = c .before .before .before .before .before in
+    h .loop .n < length (h .loop .out)
 room-now c =
     let h = c .before .before .before .before .before in
     let s = h .before .before .before .before .before in
-    let turn = c .before .before .before .before .loop-test .taken in
-    let said = compared (s .pre .0) turn (c .before .before .wide .ensures) (c .before .rule-matches .ensures) in
-    filled-room (h .loop .inv .2) (drop-step _ (h .loop .i) turn) (s .pre .1) (said ∙ c .if1 .taken)
+    let step = drop-step _ (h .loop .i) (c .before .before .before .before .loop-test .taken) in
+    filled-room (h .loop .inv .2) step (s .pre .1) (said (c .before) ∙ c .if1 .taken)
 
 loop-holds : tie.Need-loop-holds Inv-loop μ-loop
 loop-holds c = (omega arith, omega arith, filled-first _ _ _)
@@ -55,7 +67,8 @@ shared-slice-read-out c = omega arith
 mul-out-2 : tie.Need-mul-out-2 Inv-loop μ-loop
 mul-out-2 c =
     let h = c .before .before .before .before .before .before in
-    record { fits = omega (arith, room-now (c .before), h .loop .inv .2 .size, h .before .before .before .before .before .good) }
+    let good = h .before .before .before .before .before .good in
+    record { fits = omega (arith, room-now (c .before), h .loop .inv .2 .size, good) }
 
 slice-write-out : tie.Need-slice-write-out Inv-loop μ-loop
 slice-write-out c = room-now (c .before)
@@ -72,15 +85,14 @@ loop-less c = omega arith
 loop-again : tie.Need-loop-again Inv-loop μ-loop
 loop-again c =
     let h = c .before .before .before .before .before in
-    let s = h .before .before .before .before .before in
-    let turn = c .before .before .before .before .loop-test .taken in
-    let step = drop-step _ (h .loop .i) turn in
-    let said = compared (s .pre .0) turn (c .before .before .wide .ensures) (c .before .rule-matches .ensures) in
+    let good = h .before .before .before .before .before .pre .1 in
+    let step = drop-step _ (h .loop .i) (c .before .before .before .before .loop-test .taken) in
+    let says = said (c .before) in
     ⊎-elim
     (λ w.
-    (omega arith, omega (arith, w .3), rw (w .2, w .3) (filled-in (h .loop .inv .2) step (s .pre .1) (said ∙ w .0 .taken))))
+    (omega arith, omega (arith, w .3), rw (w .2, w .3) (filled-in (h .loop .inv .2) step good (says ∙ w .0 .taken))))
     (λ w.
-    (omega arith, omega (arith, w .2), rw (w .1, w .2) (filled-out (h .loop .inv .2) step (said ∙ w .0 .left))))
+    (omega arith, omega (arith, w .2), rw (w .1, w .2) (filled-out (h .loop .inv .2) step (says ∙ w .0 .left))))
     (c .if1 .came)
 
 same-length : tie.Need-same-length Inv-loop μ-loop
@@ -88,8 +100,9 @@ same-length c = c .before .loop .inv .2 .size
 
 returns : tie.Need-returns Inv-loop μ-loop
 returns c =
+    let w = c .before .loop .inv .2 in
     let end = drop-end _ (c .before .loop .i) (c .loop-test .left) in
-    record { counts = counted-last (c .before .loop .inv .2 .counted) end; writes = filled-last (c .before .loop .inv .2) end }
+    record { counts = counted-last (w .counted) end; writes = filled-last w end }
 
 pub write-entries-spec : {M : Type 1} → statement M
 write-entries-spec =

@@ -1,21 +1,23 @@
 -- `trees::spelt::leaf_spelt` meets its contract: the tests are those of `leafSpelt`, in its order. Assumes nothing.
 use native.Mathlib.Omega.{arith}
-use mathlib.Core.Path.{sym, ap, _∙_}
-use mathlib.Core.Path.{_≡_}
+use mathlib.Core.Path.{_≡_, sym, ap, _∙_}
 use borrow.Author.Needs.{needs}
 use Rattle.facts.specs.Lists.{allUnder}
 use Rattle.trees.specs.Words.{startOf}
 use Rattle.trees.specs.Spelt.{countsBelow}
-use Rattle.trees.proofs.Spelling.{start-wrong, count-wrong, end-wrong, entries-decide, part-is-entries}
+use Rattle.trees.proofs.LeafSpelling.{start-wrong, count-wrong, end-wrong, entries-decide}
+use Rattle.trees.proofs.Spelling.{part-is-entries}
 use Rattle.trees.proofs.spelt.leaf_spelt.Statement.{statement}
 use Rattle.trees.proofs.spelt.leaf_spelt.Tie as tie
 
 -- the start that was read is the sum of the counts below
 sum-is :
     (c : tie.Else1) →
-    startOf (c .before .before .before .before .before .args .nodes .now) (c .before .before .before .before .before .args .i) ≡
-    countsBelow (c .before .before .before .before .before .args .nodes .now) (c .before .before .before .before .before .args .i)
-sum-is c = sym (c .before .before .node-word .ensures .is) ∙ c .if1 .left ∙ c .before .before .before .before .before .pre .1
+    let s = c .before .before .before .before .before .args in
+    startOf (s .nodes .now) (s .i) ≡ countsBelow (s .nodes .now) (s .i)
+sum-is c =
+    sym (c .before .before .node-word .ensures .is) ∙ c .if1 .left ∙
+    c .before .before .before .before .before .pre .1
 
 node-word-requires : tie.Need-node-word-requires
 node-word-requires c κs = search needs
@@ -29,16 +31,18 @@ returns c =
     start-wrong _ _ _ _ (λ e. c .if1 .taken (c .before .before .node-word .ensures .is ∙ e ∙ sym (s .pre .1)))
 
 returns-2 : tie.Need-returns-2
-returns-2 c = count-wrong _ _ _ _ (sum-is (c .before)) (rw (c .before .before .node-word2 .ensures .is) at (c .if2 .taken))
+returns-2 c =
+    count-wrong _ _ _ _ (sum-is (c .before)) (rw (c .before .before .node-word2 .ensures .is) at (c .if2 .taken))
 
 add-if3 : tie.Need-add-if3
 add-if3 c = omega arith
 
 returns-3 : tie.Need-returns-3
 returns-3 c =
-    end-wrong _ _ _ _ (sum-is (c .before .before))
-    (rw (c .before .before .before .node-word2 .ensures .is) at (c .before .if2 .left))
-    (rw (c .before .before .before .before .node-word .ensures .is, c .before .before .before .node-word2 .ensures .is) at (c .if3 .taken))
+    let start = c .before .before .before .before .node-word .ensures .is in
+    let count = c .before .before .before .node-word2 .ensures .is in
+    end-wrong _ _ _ _ (sum-is (c .before .before)) (rw count at (c .before .if2 .left))
+    (rw (start, count) at (c .if3 .taken))
 
 add-end : tie.Need-add-end
 add-end c = omega arith
@@ -61,10 +65,11 @@ all-under-requires c κs = search needs
 returns-4 : tie.Need-returns-4
 returns-4 c =
     let w = c .before .before .before .before in
-    entries-decide _ _ _ _ (sum-is w) (rw (w .before .node-word2 .ensures .is) at (c .before .before .before .if2 .left))
-    (rw (w .before .before .node-word .ensures .is, w .before .node-word2 .ensures .is) at (c .before .before .if3 .left))
-    (c .all-under .ensures ∙
-    ap (allUnder _) (part-is-entries _ _ _ _ _ (w .before .before .node-word .ensures .is) (w .before .node-word2 .ensures .is)))
+    let start = w .before .before .node-word .ensures .is in
+    let count = w .before .node-word2 .ensures .is in
+    entries-decide _ _ _ _ (sum-is w) (rw count at (c .before .before .before .if2 .left))
+    (rw (start, count) at (c .before .before .if3 .left))
+    (c .all-under .ensures ∙ ap (allUnder _) (part-is-entries _ _ _ _ _ start count))
 
 pub leaf-spelt-spec : {M : Type 1} → statement M
 leaf-spelt-spec =

@@ -1,15 +1,25 @@
 -- `trees::spelt::node_verdict` meets its contract: the tests are those of `nodeVerdict`, in its order. Assumes nothing.
+use Prim.Native.Nat.{_<_}
 use native.Mathlib.Omega.{arith}
-use mathlib.Core.Path.{sym, _∙_}
-use mathlib.Core.Path.{_≡_}
+use mathlib.Core.Path.{_≡_, sym, _∙_}
 use borrow.Author.Needs.{needs}
 use Rattle.trees.specs.Words.{leafMark, fieldOf}
-use Rattle.trees.proofs.Spelling.{first-wrong, child-fine, child-wrong, leaf-fine, leaf-wrong}
+use Rattle.trees.proofs.NodeSpelling.{first-wrong, child-fine, child-wrong, leaf-fine, leaf-wrong}
 use Rattle.trees.proofs.spelt.node_verdict.Statement.{statement}
 use Rattle.trees.proofs.spelt.node_verdict.Tie as tie
 
+-- a first word below the mark is a cut's
+cut :
+    (c : tie.Then2) →
+    let s = c .before .before .before .before .before .args in
+    fieldOf (s .nodes .now) (s .i) < leafMark
+cut c = rw (c .before .before .node-word .ensures .is) at (c .if2 .taken)
+
 -- what is no cut and not over the mark has the mark
-mark : (c : tie.Else2) → fieldOf (c .before .before .before .before .before .args .nodes .now) (c .before .before .before .before .before .args .i) ≡ leafMark
+mark :
+    (c : tie.Else2) →
+    let s = c .before .before .before .before .before .args in
+    fieldOf (s .nodes .now) (s .i) ≡ leafMark
 mark c = omega (arith, c .before .before .node-word .ensures .is, c .if2 .left, c .before .if1 .left)
 
 node-word-requires : tie.Need-node-word-requires
@@ -23,13 +33,11 @@ node-word-requires-2 c κs = search needs
 
 returns-2 : tie.Need-returns-2
 returns-2 c =
-    child-fine _ _ _ _ (rw (c .before .before .before .before .node-word .ensures .is) at (c .before .before .if2 .taken))
-    (rw (c .before .node-word2 .ensures .is) at (c .if3 .taken))
+    child-fine _ _ _ _ (cut (c .before .before)) (rw (c .before .node-word2 .ensures .is) at (c .if3 .taken))
 
 returns-3 : tie.Need-returns-3
 returns-3 c =
-    child-wrong _ _ _ _ (rw (c .before .before .before .before .node-word .ensures .is) at (c .before .before .if2 .taken))
-    (rw (c .before .node-word2 .ensures .is) at (c .if3 .left))
+    child-wrong _ _ _ _ (cut (c .before .before)) (rw (c .before .node-word2 .ensures .is) at (c .if3 .left))
 
 leaf-spelt-requires : tie.Need-leaf-spelt-requires
 leaf-spelt-requires c κs = search needs

@@ -1,23 +1,22 @@
 -- `trees::spelt::spelt_verdict` meets its contract: the nodes decide in turn, and then the counts. The invariant: the
 -- nodes before this one are fine, and the sum is that of their counts, within the pool. Assumes nothing.
-use Prim.Native.Nat.{_≤_, _-_}
-use Prim.Native.Nat.{_+_}
+use Prim.Native.Nat.{_+_, _-_, _≤_}
 use native.Mathlib.Omega.{arith}
-use mathlib.Core.Path.{_≡_, refl, sym, _∙_}
-use mathlib.Core.Path.{ap}
+use mathlib.Core.Path.{_≡_, refl, sym, ap, _∙_}
 use lib.ListN.{length}
 use lib.Dec.{eqb}
 use borrow.Author.Tests.{eq-eqb, ne-eqb}
 use borrow.Author.Needs.{needs}
+use Rattle.refusals.specs.declared.Refusal.the-variants.{LeafWrong}
+use Rattle.refusals.specs.declared.Verdict.the-variants.{Fine}
+use Rattle.refusals.specs.Order.{refuseUnless}
 use Rattle.refusals.proofs.Order.{holds-fine, fails-refused}
 use Rattle.refusals.proofs.Turns.{Head, head-first, head-step, head-stop, head-last}
-use Rattle.refusals.specs.declared.Refusal.the-variants.{LeafWrong}
-use Rattle.refusals.specs.Order.{refuseUnless}
 use Rattle.trees.specs.Words.{nodeCount}
-use Rattle.trees.specs.Spelt.{countsBelow, nodeVerdict}
-use Rattle.trees.specs.Spelt.{speltVerdict}
-use Rattle.trees.proofs.Spelling.{counts-first, sum-goes-on, counts-decide, nodes-refuse}
-use Rattle.trees.proofs.Spelling.{counts-first, counts-step, counts-within, counts-decide, nodes-refuse}
+use Rattle.trees.specs.Spelt.{countsBelow, nodeVerdict, speltVerdict}
+use Rattle.trees.proofs.LeafSpelling.{counts-first}
+use Rattle.trees.proofs.NodeSpelling.{sum-goes-on}
+use Rattle.trees.proofs.Spelling.{counts-decide, nodes-refuse}
 use Rattle.trees.proofs.spelt.spelt_verdict.Statement.{statement}
 use Rattle.trees.proofs.spelt.spelt_verdict.Tie as tie
 
@@ -29,7 +28,15 @@ Inv-loop rules nodes pool count sum₀ node₀ sum node =
 abbrev μ-loop : tie.MeasureT-loop
 μ-loop rules nodes pool count sum₀ node₀ sum node = nodeCount nodes - node
 
--- the sum after this node
+-- a node that is not refused is fine
+fine :
+    (c : tie.After-leaf-count Inv-loop μ-loop) →
+    let h = c .before .before .before .before .before in
+    let s = h .before .before .before .args in
+    nodeVerdict (s .rules) (s .nodes .now) (s .pool .now) (h .loop .node) ≡ Fine
+fine c = sym (c .before .before .before .node-verdict .ensures) ∙ c .before .enum-told .given .1
+
+-- with the count of this node the sum is that below the next, and within the pool
 goes-on :
     (c : tie.After-leaf-count Inv-loop μ-loop) →
     let h = c .before .before .before .before .before in
@@ -38,8 +45,7 @@ goes-on :
     (h .loop .sum + c .leaf-count .result ≤ length (s .pool .now))
 goes-on c =
     let h = c .before .before .before .before .before in
-    let fine = sym (c .before .before .before .node-verdict .ensures) ∙ c .before .enum-told .given .1 in
-    sum-goes-on _ _ _ _ fine (h .loop .inv .2) (h .loop .inv .3) (c .leaf-count .ensures)
+    sum-goes-on _ _ _ _ (fine c) (h .loop .inv .2) (h .loop .inv .3) (c .leaf-count .ensures)
 
 -- after the last node the counts decide
 decided :
@@ -52,7 +58,8 @@ decided c =
     let h = c .before in
     let s = h .before .before .before .args in
     let end : h .loop .node ≡ nodeCount (s .nodes .now) = omega arith in
-    counts-decide _ _ _ (head-last (h .loop .inv .4) (omega arith)) (h .loop .inv .2 ∙ ap (countsBelow (s .nodes .now)) end)
+    counts-decide _ _ _ (head-last (h .loop .inv .4) (omega arith))
+    (h .loop .inv .2 ∙ ap (countsBelow (s .nodes .now)) end)
 
 loop-holds : tie.Need-loop-holds Inv-loop μ-loop
 loop-holds c = (refl, omega arith, counts-first _, omega arith, head-first _ _)
@@ -67,7 +74,8 @@ returns : tie.Need-returns Inv-loop μ-loop
 returns c =
     let h = c .before .before .before .before .before in
     nodes-refuse _ _ _
-    (head-stop (h .loop .inv .4) (omega arith) (sym (c .before .before .before .node-verdict .ensures) ∙ c .before .why .given .1))
+    (head-stop (h .loop .inv .4) (omega arith)
+    (sym (c .before .before .before .node-verdict .ensures) ∙ c .before .why .given .1))
 
 enum-told : tie.Need-enum-told Inv-loop μ-loop
 enum-told c = search needs
@@ -87,8 +95,7 @@ loop-less c = omega arith
 loop-again : tie.Need-loop-again Inv-loop μ-loop
 loop-again c =
     let h = c .before .before .before .before .before in
-    let fine = sym (c .before .before .before .node-verdict .ensures) ∙ c .before .enum-told .given .1 in
-    (refl, omega arith, goes-on c .0, goes-on c .1, head-step (h .loop .inv .4) (omega arith) fine)
+    (refl, omega arith, goes-on c .0, goes-on c .1, head-step (h .loop .inv .4) (omega arith) (fine c))
 
 returns-2 : tie.Need-returns-2 Inv-loop μ-loop
 returns-2 c =

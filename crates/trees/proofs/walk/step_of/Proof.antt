@@ -32,7 +32,9 @@ returns-4 c =
     (rw (c .before .node-word2 .ensures .is) at (c .if4 .taken))
 
 side-of-requires : tie.Need-side-of-requires
-side-of-requires c κs = ((omega arith, c .before .before .before .before .node-word .ensures .is), (omega arith, c .before .before .before .before .before .before .before .before .pre .0))
+side-of-requires c κs =
+    let w = c .before .before .before .before in
+    ((omega arith, w .node-word .ensures .is), (omega arith, w .before .before .before .before .pre .0))
 
 returns-5 : tie.Need-returns-5
 returns-5 c =

@@ -1,5 +1,4 @@
 -- `trees::words::node_at` meets its contract: the tests are those of `nodeAt`, in its order. Assumes nothing.
-use native.Mathlib.Omega.{arith}
 use borrow.Author.Needs.{needs}
 use Rattle.trees.proofs.Nodes.{node-missing, node-leaf, node-cut}
 use Rattle.trees.proofs.words.node_at.Statement.{statement}

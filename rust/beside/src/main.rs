@@ -122,40 +122,26 @@ fn plain_all(tree: &Tree, header: &[u32; 5], out: &mut [u32]) -> usize {
     count
 }
 
+/// A call of the library with the tree's three slices, and what else it takes.
+macro_rules! lend {
+    ($call:ident, $tree:expr, $($rest:expr),+) => {{
+        let (r, n, p) = (&$tree.rules, &$tree.nodes, &$tree.pool);
+        let (rules, nodes, pool) = (r.as_ptr(), n.as_ptr(), p.as_ptr());
+        // The slices live as long as the call, and none that it writes to overlaps another.
+        unsafe { $call(rules, r.len() as u64, nodes, n.len() as u64, pool, p.len() as u64, $($rest),+) }
+    }};
+}
+
 fn our_first(tree: &Tree, header: &[u32; 5], answer: &mut [u64; 8]) {
-    let (r, n, p) = (&tree.rules, &tree.nodes, &tree.pool);
-    unsafe {
-        wick_tree_first(
-            r.as_ptr(),
-            r.len() as u64,
-            n.as_ptr(),
-            n.len() as u64,
-            p.as_ptr(),
-            p.len() as u64,
-            header.as_ptr(),
-            5,
-            answer,
-        )
-    }
+    lend!(wick_tree_first, tree, header.as_ptr(), 5, answer)
 }
 
 fn our_all(tree: &Tree, header: &[u32; 5], out: &mut [u32], answer: &mut [u64; 8]) {
-    let (r, n, p) = (&tree.rules, &tree.nodes, &tree.pool);
-    unsafe {
-        wick_tree_all(
-            r.as_ptr(),
-            r.len() as u64,
-            n.as_ptr(),
-            n.len() as u64,
-            p.as_ptr(),
-            p.len() as u64,
-            header.as_ptr(),
-            5,
-            out.as_mut_ptr(),
-            out.len() as u64,
-            answer,
-        )
-    }
+    lend!(wick_tree_all, tree, header.as_ptr(), 5, out.as_mut_ptr(), out.len() as u64, answer)
+}
+
+fn our_check(tree: &Tree, answer: &mut [u64; 8]) {
+    lend!(wick_tree_check, tree, answer)
 }
 
 /// The middle of several turns, for one call.
@@ -219,20 +205,9 @@ fn main() {
         "all matches, the library {:?}",
         rounds(&mut |header| our_all(&tree, header, black_box(&mut out), black_box(&mut answer)))
     );
-    let (r, n, p) = (&tree.rules, &tree.nodes, &tree.pool);
     let check = timed(10, || {
         for _ in 0..10 {
-            unsafe {
-                wick_tree_check(
-                    r.as_ptr(),
-                    r.len() as u64,
-                    n.as_ptr(),
-                    n.len() as u64,
-                    p.as_ptr(),
-                    p.len() as u64,
-                    black_box(&mut answer),
-                )
-            }
+            our_check(&tree, black_box(&mut answer));
         }
     });
     assert_eq!(answer, [0, 0, 0, 10, 4, 0, 0, 0]);

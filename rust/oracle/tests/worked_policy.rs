@@ -1,26 +1,9 @@
 //! The list rows of the scope's worked policy.
 
+mod worked;
+
 use oracle::{line_all, line_first, rule_check, Answer};
-
-const ADDRESS_10_1_2_3: u32 = 0x0A01_0203;
-const DESTINATION: u32 = 0xC0A8_0001;
-const SOURCE_PORT: u32 = 40_000;
-/// What a number of the output is before the call.
-const AS_FOUND: u32 = 0xAAAA_AAAA;
-
-const RULES: [[u32; 10]; 3] = [
-    [0x0A00_0000, 8, 0, 0, 0, 65_535, 80, 80, 6, 6],
-    [0x0A01_0000, 16, 0, 0, 0, 65_535, 0, 1_023, 6, 6],
-    [0, 0, 0, 0, 0, 65_535, 0, 65_535, 0, 255],
-];
-
-fn policy() -> Vec<u32> {
-    RULES.concat()
-}
-
-fn header(source: u32, destination_port: u32, protocol: u32) -> [u32; 5] {
-    [source, DESTINATION, SOURCE_PORT, destination_port, protocol]
-}
+use worked::{header, policy, ADDRESS_10_1_2_3, AS_FOUND};
 
 /// Expects this list with exact room, with more room, and its first number from first-match.
 fn expect_list(header: [u32; 5], list: &[u32]) {

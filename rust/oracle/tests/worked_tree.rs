@@ -1,28 +1,12 @@
 //! The tree rows of the scope's worked policy.
 
+mod worked;
+
 use oracle::{tree_all, tree_check, tree_first, Answer};
+use worked::{header, policy, ADDRESS_10_1_2_3, AS_FOUND};
 
-const ADDRESS_10_1_2_3: u32 = 0x0A01_0203;
-const DESTINATION: u32 = 0xC0A8_0001;
-const SOURCE_PORT: u32 = 40_000;
-/// What a number of the output is before the call.
-const AS_FOUND: u32 = 0xAAAA_AAAA;
-
-const RULES: [[u32; 10]; 3] = [
-    [0x0A00_0000, 8, 0, 0, 0, 65_535, 80, 80, 6, 6],
-    [0x0A01_0000, 16, 0, 0, 0, 65_535, 0, 1_023, 6, 6],
-    [0, 0, 0, 0, 0, 65_535, 0, 65_535, 0, 255],
-];
 const NODES: [[u32; 3]; 5] = [[0, 167_772_159, 2], [5, 0, 1], [0, 184_549_375, 4], [5, 1, 3], [5, 4, 1]];
 const POOL: [u32; 5] = [2, 0, 1, 2, 2];
-
-fn policy() -> Vec<u32> {
-    RULES.concat()
-}
-
-fn header(source: u32, destination_port: u32, protocol: u32) -> [u32; 5] {
-    [source, DESTINATION, SOURCE_PORT, destination_port, protocol]
-}
 
 /// Expects this list after so many nodes and entries, with exact room and with more, and its first number after
 /// `first_after` entries.

@@ -1,0 +1,21 @@
+//! The scope's worked policy: its rules, and headers to its destination.
+
+pub const ADDRESS_10_1_2_3: u32 = 0x0A01_0203;
+/// What a number of the output is before the call.
+pub const AS_FOUND: u32 = 0xAAAA_AAAA;
+
+const DESTINATION: u32 = 0xC0A8_0001;
+const SOURCE_PORT: u32 = 40_000;
+const RULES: [[u32; 10]; 3] = [
+    [0x0A00_0000, 8, 0, 0, 0, 65_535, 80, 80, 6, 6],
+    [0x0A01_0000, 16, 0, 0, 0, 65_535, 0, 1_023, 6, 6],
+    [0, 0, 0, 0, 0, 65_535, 0, 65_535, 0, 255],
+];
+
+pub fn policy() -> Vec<u32> {
+    RULES.concat()
+}
+
+pub fn header(source: u32, destination_port: u32, protocol: u32) -> [u32; 5] {
+    [source, DESTINATION, SOURCE_PORT, destination_port, protocol]
+}

@@ -5,6 +5,7 @@ pub mod Below
 pub mod Lowest
 pub mod Steps
 pub mod Tables
+pub mod Setting
 pub mod Members
 pub mod Rising
 pub mod Under

@@ -2,3 +2,4 @@
 pub mod Order
 pub mod Turns
 pub mod Unique
+pub mod Giving

@@ -1,0 +1,21 @@
+-- The laws of texts, by subject.
+pub mod Digit
+pub mod Numbers
+pub mod Below
+pub mod Parts
+pub mod Lines
+pub mod Counted
+pub mod Plain
+pub mod Texts
+pub mod Runs
+pub mod Cut
+pub mod Addresses
+pub mod Places
+pub mod Puts
+pub mod Scanning
+pub mod Answers
+pub mod Behind
+pub mod Views
+pub mod LineViews
+pub mod NextLines
+pub mod Unique

@@ -1,0 +1,9 @@
+-- Texts: places, numbers, lines, whole texts, and what the cursor and the writers answer.
+pub mod Words
+pub mod Places
+pub mod Numbers
+pub mod Line
+pub mod Text
+pub mod Addresses
+pub mod Cursors
+pub mod Puts

@@ -1,0 +1,53 @@
+-- The fixed words and the separators of lines, as bytes. Definitions only.
+--   newline, tab                      the byte that ends a line, and the one that parts its fields
+--   rulesWord .. headWord             `rules`, `rule`, `tree`, `cut`, `leaf`, `end` and `head`
+--   oneTab .. fourTabs                the separators of a line of one to four numbers
+--   ruleMarks                         those of a rule: its number; two addresses with their lengths; six range ends
+--   mostFields                        the most numbers of a line with fixed separators
+use Prim.Native.Nat.{ℕ}
+use mathlib.Core.List.{List, [], _∷_}
+
+abbrev pub newline : ℕ
+newline = 10
+
+abbrev pub tab : ℕ
+tab = 9
+
+abbrev pub rulesWord : List ℕ
+rulesWord = 114 ∷ 117 ∷ 108 ∷ 101 ∷ 115 ∷ []
+
+abbrev pub ruleWord : List ℕ
+ruleWord = 114 ∷ 117 ∷ 108 ∷ 101 ∷ []
+
+abbrev pub treeWord : List ℕ
+treeWord = 116 ∷ 114 ∷ 101 ∷ 101 ∷ []
+
+abbrev pub cutWord : List ℕ
+cutWord = 99 ∷ 117 ∷ 116 ∷ []
+
+abbrev pub leafWord : List ℕ
+leafWord = 108 ∷ 101 ∷ 97 ∷ 102 ∷ []
+
+abbrev pub endWord : List ℕ
+endWord = 101 ∷ 110 ∷ 100 ∷ []
+
+abbrev pub headWord : List ℕ
+headWord = 104 ∷ 101 ∷ 97 ∷ 100 ∷ []
+
+abbrev pub oneTab : List ℕ
+oneTab = tab ∷ []
+
+abbrev pub twoTabs : List ℕ
+twoTabs = tab ∷ tab ∷ []
+
+abbrev pub threeTabs : List ℕ
+threeTabs = tab ∷ tab ∷ tab ∷ []
+
+abbrev pub fourTabs : List ℕ
+fourTabs = tab ∷ tab ∷ tab ∷ tab ∷ []
+
+abbrev pub ruleMarks : List ℕ
+ruleMarks = 9 ∷ 9 ∷ 46 ∷ 46 ∷ 46 ∷ 47 ∷ 9 ∷ 46 ∷ 46 ∷ 46 ∷ 47 ∷ 9 ∷ 9 ∷ 9 ∷ 9 ∷ 9 ∷ 9 ∷ []
+
+abbrev pub mostFields : ℕ
+mostFields = 17

@@ -1,0 +1,13 @@
+// The bytes of a text: fixed words, decimal numbers, addresses and whole lines, read by a cursor and written to lent
+// bytes. Both files and the program's input are lines of this kind: a word, and numbers, each behind its separator.
+//   cursor::Cursor::line_end, whole, line          the next newline; all that is left, as a line; the next line
+//   cursor::Cursor::fields, number_behind, end     its parts: the word and its numbers; one number; nothing more
+//   put::put_line, put_fields, put_behind, put     the same, written as far as there is room
+//   address::octets_fit, address_of                the address of four octets
+//   words                                          the fixed words and separators
+// Each takes any bytes and any places. Rests on facts and refusals.
+pub mod address;
+pub mod cursor;
+pub mod place;
+pub mod put;
+pub mod words;

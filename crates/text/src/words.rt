@@ -1,0 +1,35 @@
+// The fixed words of the two files and of the program's input, and the bytes that part them. Readers compare these and
+// writers put them; they stand nowhere else.
+pub const RULES: [u8; 5] = *b"rules";
+
+pub const RULE: [u8; 4] = *b"rule";
+
+pub const TREE: [u8; 4] = *b"tree";
+
+pub const CUT: [u8; 3] = *b"cut";
+
+pub const LEAF: [u8; 4] = *b"leaf";
+
+pub const END: [u8; 3] = *b"end";
+
+pub const HEAD: [u8; 4] = *b"head";
+
+// The byte that ends a line, and the one that parts its fields.
+pub const NEWLINE: u8 = 10;
+
+pub const TAB: u8 = 9;
+
+// The separators of the lines: a number stands behind each.
+pub const ONE_TAB: [u8; 1] = *b"\t";
+
+pub const TWO_TABS: [u8; 2] = *b"\t\t";
+
+pub const THREE_TABS: [u8; 3] = *b"\t\t\t";
+
+pub const FOUR_TABS: [u8; 4] = *b"\t\t\t\t";
+
+// A rule's: its number; two addresses, each with its length; six range ends.
+pub const RULE_MARKS: [u8; 17] = *b"\t\t.../\t.../\t\t\t\t\t\t";
+
+// The most numbers of a line with fixed separators.
+pub const MOST_FIELDS: usize = 17;

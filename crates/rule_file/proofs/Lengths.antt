@@ -1,0 +1,57 @@
+-- The text of a good list is short enough for a place to stand behind it.
+use Prim.Native.Nat.{ℕ, zero, suc, _+_, _*_, _^_, _≤_, _<_}
+use native.Mathlib.Omega.{arith}
+use mathlib.Core.List.{List, [], _∷_, _++_}
+use mathlib.Core.Path.{_≡_, refl, ap}
+use lib.ListN.{length, drop, length-append}
+use Rattle.refusals.specs.declared.Verdict.the-variants.{Fine}
+use Rattle.text.specs.Words.{rulesWord, ruleWord, endWord, oneTab, ruleMarks}
+use Rattle.text.specs.Line.{printFields, printLine, AllBelow}
+use Rattle.text.specs.Text.{unlines}
+use Rattle.text.proofs.Numbers.{digits-length}
+use Rattle.text.proofs.Below.{below-drop, below-take}
+use Rattle.text.proofs.Texts.{unlines-more}
+use Rattle.rules.specs.Words.{ruleWords, mostRules, ruleCount}
+use Rattle.rules.specs.Good.{listVerdict}
+use Rattle.rules.proofs.Lists.{fine-iff-good}
+use Rattle.rule_file.specs.Records.{ruleValues, ruleAt}
+use Rattle.rule_file.specs.RuleText.{headLine, ruleLine, endLine, ended, ruleLines, rulesText}
+use Rattle.rule_file.proofs.Records.{values-below}
+use Rattle.rule_file.proofs.Writing.{text-parts}
+
+fields-length : (ms vs : List ℕ) → AllBelow (2 ^ 32) vs → length (printFields ms vs) ≤ length ms * 2 ^ 33
+unfolding printFields
+fields-length [] vs b = omega arith
+fields-length (m ∷ ms) [] b = omega arith
+fields-length (m ∷ ms) (v ∷ vs) b =
+    simp length-append (omega (arith, digits-length v, b .0, fields-length ms vs (b .1)))
+
+line-length :
+    (w ms vs : List ℕ) → AllBelow (2 ^ 32) vs → length (ended (printLine w ms vs)) ≤ length w + length ms * 2 ^ 33 + 1
+unfolding printLine
+line-length w ms vs b = simp length-append (omega (arith, fields-length ms vs b))
+
+rules-length :
+    (ws : List ℕ) (i : ℕ) → i ≤ mostRules → AllBelow (2 ^ 32) ws → length (unlines (ruleLines ws i)) ≤ i * 2 ^ 38
+unfolding ruleLines unlines
+rules-length ws zero h b = omega arith
+rules-length ws (suc i) h b =
+    let r : List ℕ = ruleAt ws i in
+    let words = below-take (2 ^ 32) ruleWords (drop (i * ruleWords) ws) (below-drop (2 ^ 32) (i * ruleWords) ws b) in
+    let one = line-length ruleWord ruleMarks (ruleValues i r) (values-below i r (omega arith) words) in
+    let e = unlines-more (ruleLines ws i) (ruleLine i r) in
+    let n = length-append (unlines (ruleLines ws i)) (ended (ruleLine i r)) in
+    omega (arith, ap length e, n, one, rules-length ws i (omega arith) b)
+
+-- the text of a good list of words of 32 bits has fewer than 2 ^ 63 bytes
+pub text-fits : (ws : List ℕ) → listVerdict ws ≡ Fine → AllBelow (2 ^ 32) ws → length (rulesText ws) < 2 ^ 63
+text-fits ws e b =
+    let n : ℕ = ruleCount ws in
+    let g = fine-iff-good ws .0 e in
+    let few : n ≤ mostRules = omega (arith, g .few) in
+    let first = line-length rulesWord oneTab (n ∷ []) (omega arith, tt) in
+    let last = line-length endWord oneTab ((n + 1) ∷ []) (omega arith, tt) in
+    let rules = rules-length ws n few b in
+    let front = length-append (ended (headLine n)) (unlines (ruleLines ws n)) in
+    let all = length-append (ended (headLine n) ++ unlines (ruleLines ws n)) (ended (endLine n)) in
+    omega (arith, ap length (text-parts ws n refl), first, last, rules, front, all)

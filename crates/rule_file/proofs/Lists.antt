@@ -1,0 +1,107 @@
+-- A list of rules, cut into the ten words of each rule.
+use Prim.Native.Nat.{ℕ, _+_, _*_, _≤_, _<_}
+use native.Mathlib.Omega.{arith}
+use native.Mathlib.Nat.{zero-add}
+use mathlib.Core.Bool.{true, false}
+use mathlib.Core.Logic.{_↔_}
+use mathlib.Core.List.{List, _++_}
+use mathlib.Core.Path.{_≡_, sym, ap, _∙_}
+use lib.ListN.{length, getD, take, drop, set, replicate, length-take, length-drop}
+use lib.Seq.{sets, take-append-le, drop-append-le, drop-at, take-all, take-length, take-add}
+use lib.Seq.{getD-take, getD-drop}
+use Rattle.facts.specs.Below.{allBelow}
+use Rattle.facts.proofs.Bools.{fails}
+use Rattle.facts.proofs.Setting.{sets-more}
+use Rattle.refusals.specs.declared.Refusal.{Refusal}
+use Rattle.refusals.specs.declared.Verdict.the-variants.{Fine, Refused}
+use Rattle.refusals.proofs.Order.{refused-not-fine}
+use Rattle.rules.specs.Words.{ruleWords, wordOf}
+use Rattle.rules.specs.Good.{listVerdict}
+use Rattle.rules.specs.Good as rules
+use Rattle.rules.proofs.Lists.{GoodList, fine-iff-good}
+use Rattle.rule_file.specs.Records.{ruleAt}
+use Rattle.rule_file.proofs.Filled.{filled-all}
+
+-- what follows the words of a rule does not change it
+pub at-append : (ws x : List ℕ) (i : ℕ) → i * ruleWords + ruleWords ≤ length ws → ruleAt (ws ++ x) i ≡ ruleAt ws i
+at-append ws x i h =
+    rw (drop-append-le (i * ruleWords) ws x (omega arith))
+    (take-append-le ruleWords (drop (i * ruleWords) ws) x (simp length-drop (omega arith)))
+
+-- ten words behind those of i rules are rule i
+pub at-last : (ws x : List ℕ) (i : ℕ) → length ws ≡ i * ruleWords → length x ≡ ruleWords → ruleAt (ws ++ x) i ≡ x
+at-last ws x i h l = rw (drop-at ws x (i * ruleWords) h) (ap (λ (k : ℕ). take k x) (sym l) ∙ take-length x)
+
+-- a rule that is there has ten words
+pub at-length : (ws : List ℕ) (i : ℕ) → i * ruleWords + ruleWords ≤ length ws → length (ruleAt ws i) ≡ ruleWords
+at-length ws i h = simp (length-take, length-drop) (omega arith)
+
+-- the words of the rules below i and those of rule i are the words of the rules below i + 1
+pub at-next : (ws : List ℕ) (i : ℕ) → take (i * ruleWords) ws ++ ruleAt ws i ≡ take ((i + 1) * ruleWords) ws
+at-next ws i =
+    let e : i * ruleWords + ruleWords ≡ (i + 1) * ruleWords = omega arith in
+    sym (take-add (i * ruleWords) ruleWords ws) ∙ ap (λ (k : ℕ). take k ws) e
+
+-- where the first j words of rule i are read into ten words, reading word j makes it the first j + 1
+pub words-more :
+    (rule ws : List ℕ) (i j : ℕ) → rule ≡ sets (replicate ruleWords 0) 0 (take j (ruleAt ws i)) → j < ruleWords →
+    i * ruleWords + ruleWords ≤ length ws →
+    set rule j (wordOf ws i j) ≡ sets (replicate ruleWords 0) 0 (take (j + 1) (ruleAt ws i))
+words-more rule ws i j e h there =
+    let k : ℕ = i * ruleWords in
+    let same : getD (ruleAt ws i) j 0 ≡ wordOf ws i j = getD-take ruleWords (drop k ws) j 0 h ∙ getD-drop k ws j 0 in
+    let ten : j < length (ruleAt ws i) = rw (at-length ws i there) h in
+    let more = sets-more (replicate ruleWords 0) rule (ruleAt ws i) 0 j e ten in
+    rw (← same) (ap (λ (x : ℕ). set rule x (getD (ruleAt ws i) j 0)) (sym (zero-add j)) ∙ more)
+
+-- where all words of rule i are read into ten words, these are the rule
+pub words-all :
+    (rule ws : List ℕ) (i j : ℕ) → rule ≡ sets (replicate ruleWords 0) 0 (take j (ruleAt ws i)) → ruleWords ≤ j →
+    i * ruleWords + ruleWords ≤ length ws → rule ≡ ruleAt ws i
+words-all rule ws i j e h there =
+    let ten = at-length ws i there in
+    e ∙ ap (sets (replicate ruleWords 0) 0) (take-all j (ruleAt ws i) (omega arith)) ∙
+    filled-all ruleWords (ruleAt ws i) ten
+
+word-at : (ws : List ℕ) (i k : ℕ) → k < ruleWords → wordOf (ruleAt ws i) 0 k ≡ wordOf ws i k
+word-at ws i k h =
+    let e : 0 * ruleWords + k ≡ k = omega arith in
+    rw e (getD-take ruleWords (drop (i * ruleWords) ws) k 0 h ∙ getD-drop (i * ruleWords) ws k 0)
+
+good-same :
+    (a b : List ℕ) (i j : ℕ) → ((k : ℕ) → k < ruleWords → wordOf a i k ≡ wordOf b j k) → rules.good a i ≡ rules.good b j
+unfolding rules.good allBelow
+good-same a b i j h =
+    rw (
+      h 0 (omega arith),
+      h 1 (omega arith),
+      h 2 (omega arith),
+      h 3 (omega arith),
+      h 4 (omega arith),
+      h 5 (omega arith),
+      h 6 (omega arith),
+      h 7 (omega arith),
+      h 8 (omega arith),
+      h 9 (omega arith),
+    )
+
+-- the ten words of a rule are good exactly where the rule is good in its list
+pub good-at : (ws : List ℕ) (i : ℕ) → rules.good (ruleAt ws i) 0 ≡ rules.good ws i
+good-at ws i = good-same (ruleAt ws i) ws 0 i (word-at ws i)
+
+-- ten words are a good list exactly where they are a good rule
+pub one-good-iff : (r : List ℕ) → length r ≡ ruleWords → (listVerdict r ≡ Fine) ↔ (rules.good r 0 ≡ true)
+one-good-iff r l = (λ e. fine-iff-good r .0 e .each 0 (omega arith), λ g. fine-iff-good r .1 (of g))
+  where
+    of : rules.good r 0 ≡ true → GoodList r
+    of g =
+        record {
+          whole = omega arith;
+          few = omega arith;
+          each = λ k h. let e : k ≡ 0 = omega arith in rw e g;
+        }
+
+-- ten words that are refused are not a good rule
+pub one-refused :
+    (r : List ℕ) {why : Refusal} → length r ≡ ruleWords → listVerdict r ≡ Refused why → rules.good r 0 ≡ false
+one-refused r l e = fails (rules.good r 0) (λ g. refused-not-fine (sym e ∙ one-good-iff r l .1 g))

@@ -1,0 +1,52 @@
+-- `rule_file::read::read_pass` meets its contract: the first line decides, and then the rest. Assumes nothing.
+use mathlib.Core.Path.{subst}
+use denote.Ref.{now}
+use borrow.Author.Needs.{needs}
+use Rattle.rule_file.specs.ReadSteps.{HeadIs}
+use Rattle.rule_file.proofs.read.read_pass.Statement.{statement}
+use Rattle.rule_file.proofs.read.read_pass.Tie as tie
+
+first-line-requires : tie.Need-first-line-requires
+first-line-requires c κs = search needs
+
+enum-known-why : tie.Need-enum-known-why
+enum-known-why c = search needs
+
+enum-known-n : tie.Need-enum-known-n
+enum-known-n c = search needs
+
+rule-lines-requires : tie.Need-rule-lines-requires
+rule-lines-requires c κs =
+    let f = c .before .before .before .before in
+    let w = f .before .before .before in
+    let h = subst (HeadIs (now (w .args .text))) (c .before .before .n .given .1) (f .first-line .ensures) in
+    (h .stands, h .few)
+
+returns : tie.Need-returns
+returns c =
+    let f = c .before .before .before in
+    let w = f .before .before .before in
+    subst (HeadIs (now (w .args .text))) (c .before .why .given .1) (f .first-line .ensures)
+
+same-length : tie.Need-same-length
+same-length c = search needs
+
+returns-2 : tie.Need-returns-2
+returns-2 c =
+    let m = c .before .before .before .before .before in
+    let f = m .before .before in
+    let w = f .before .before .before in
+    let h = subst (HeadIs (now (w .args .text))) (m .n .given .1) (f .first-line .ensures) in
+    rw (h .moved) (c .before .before .rule-lines .ensures)
+
+pub read-pass-spec : {M : Type 1} → statement M
+read-pass-spec =
+    tie.close
+    (tie.spec
+    first-line-requires
+    enum-known-why
+    enum-known-n
+    rule-lines-requires
+    returns
+    same-length
+    returns-2)

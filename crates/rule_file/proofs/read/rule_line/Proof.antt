@@ -1,0 +1,89 @@
+-- `rule_file::read::rule_line` meets its contract: the line that was taken decides, and its words are put.
+-- Assumes nothing.
+use native.Mathlib.Omega.{arith}
+use borrow.Author.Needs.{needs}
+use Rattle.facts.proofs.Bools.{held, failed}
+use Rattle.text.proofs.NextLines.{line-next, line-refused}
+use Rattle.rule_file.proofs.Reader.{rule-taken, rule-wrong, rule-not}
+use Rattle.rule_file.proofs.read.rule_line.Statement.{statement}
+use Rattle.rule_file.proofs.read.rule_line.Tie as tie
+
+slice-aggregate-line : tie.Need-slice-aggregate-line
+slice-aggregate-line c = search needs
+
+slice-aggregate-line-2 : tie.Need-slice-aggregate-line-2
+slice-aggregate-line-2 c = search needs
+
+line-requires : tie.Need-line-requires
+line-requires c κs = search needs
+
+enum-known-said : tie.Need-enum-known-said
+enum-known-said c = search needs
+
+enum-known-said-2 : tie.Need-enum-known-said-2
+enum-known-said-2 c = search needs
+
+rule-test-requires : tie.Need-rule-test-requires
+rule-test-requires c κs = search needs
+
+wrong-requires : tie.Need-wrong-requires
+wrong-requires c κs = search needs
+
+returns : tie.Need-returns
+returns c =
+    let m = c .before .before .before .before in
+    let l = m .before .before .before in
+    let w = l .before .before .before .before .before in
+    let taken = line-next _ _ _ _ (l .line .ensures) (m .said2 .given .1) in
+    let test = failed (c .before .before .rule-test .ensures) (c .before .if1 .taken) in
+    rule-wrong (omega (arith, w .good)) (w .pre .0) _ taken test (c .wrong .ensures)
+
+rule-of-requires : tie.Need-rule-of-requires
+rule-of-requires c κs = search needs
+
+put-words-requires : tie.Need-put-words-requires
+put-words-requires c κs =
+    let m = c .before .before .before .before .before in
+    let w = m .before .before .before .before .before .before .before .before in
+    w .pre .1
+
+returns-2 : tie.Need-returns-2
+returns-2 c =
+    let m = c .before in
+    let l = m .before .before .before in
+    let w = l .before .before .before .before .before in
+    let refused = line-refused _ _ _ _ (l .line .ensures) (m .said .given .1) in
+    rule-not (omega (arith, w .good)) (w .pre .0) _ refused
+
+same-length : tie.Need-same-length
+same-length c = search needs
+
+returns-3 : tie.Need-returns-3
+returns-3 c =
+    let p = c .before .before in
+    let t = p .before .before .before in
+    let m = t .before .before .before in
+    let l = m .before .before .before in
+    let w = l .before .before .before .before .before in
+    let taken = line-next _ _ _ _ (l .line .ensures) (m .said2 .given .1) in
+    let test = held (t .before .rule-test .ensures) (t .if1 .left) in
+    let put = rw (p .before .rule-of .ensures) at (p .put-words .ensures) in
+    rule-taken (omega (arith, w .good)) (w .pre .0) _ taken test put
+
+pub rule-line-spec : {M : Type 1} → statement M
+rule-line-spec =
+    tie.close
+    (tie.spec
+    slice-aggregate-line
+    slice-aggregate-line-2
+    line-requires
+    enum-known-said
+    enum-known-said-2
+    rule-test-requires
+    wrong-requires
+    returns
+    rule-of-requires
+    put-words-requires
+    returns-2
+    same-length
+    returns-3)

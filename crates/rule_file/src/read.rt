@@ -1,0 +1,145 @@
+// The reader of the rule file: the first line, the rules in order, the end line and nothing after it.
+use crate::record::put_words;
+use crate::record::rule_of;
+use crate::record::rule_test;
+use refusals::Refusal;
+use rules::words::MOST_RULES;
+use rules::words::RULE_WORDS;
+use text::cursor::Cursor;
+use text::cursor::Step;
+use text::cursor::wrong;
+use text::words::END;
+use text::words::ONE_TAB;
+use text::words::RULE;
+use text::words::RULE_MARKS;
+use text::words::RULES;
+ghost use Prim.Native.Nat.{_≤_, _<_};
+ghost use Rattle.rules.specs.Words.{mostRules};
+ghost use Rattle.rule_file.specs.RuleText.{rulesIn};
+ghost use Rattle.rule_file.specs.ReadRules.{RulesRead};
+ghost use Rattle.rule_file.specs.ReadSteps.{Standing, restFrom, HeadIs, RuleIs, EndIs, PassIs};
+
+pub enum Read {
+    Refused(Refusal),
+    Rules { rules: usize },
+}
+
+// What the first line says: how many rules follow, and where they begin.
+pub enum Head {
+    Refused(Refusal),
+    Rules(usize, Cursor),
+}
+
+// The words of the rules that a text holds, from the front of `rules` on; the rest of `rules` is as found. The text is
+// judged whole before the room is, and a refusal writes nothing.
+pub fn read_rules(text: &[u8], rules: &mut [u32]) -> Read
+    ensures { λ r. ⌜ RulesRead (now (text .entry)) (now (rules .entry)) r (now (rules .exit)) ⌝ }
+{
+    match read_pass(text, &mut rules[..0]) {
+        Read::Refused(why) => Read::Refused(why),
+        Read::Rules { rules: count } => {
+            let needed = count * RULE_WORDS;
+            if rules.len() < needed {
+                return Read::Refused(Refusal::OutputShort { needed, output: 0 });
+            }
+            read_pass(text, rules)
+        }
+    }
+}
+
+// One pass: judges the text, counts its rules, and puts their words as far as there is room.
+fn read_pass(text: &[u8], rules: &mut [u32]) -> Read
+    ensures { λ r. ⌜ PassIs (rulesIn (now (text .entry))) (now (rules .entry)) (now (rules .exit)) r ⌝ }
+{
+    match first_line(text) {
+        Head::Refused(why) => Read::Refused(why),
+        Head::Rules(n, c) => rule_lines(text, c, n, rules),
+    }
+}
+
+// The first line.
+fn first_line(text: &[u8]) -> Head
+    ensures { λ r. ⌜ HeadIs (now (text .entry)) r ⌝ }
+{
+    let c = Cursor { at: 0, lines: 0 };
+    let read = c.line(text, &RULES, &ONE_TAB);
+    let said = read.said;
+    let values = read.values;
+    match said {
+        Step::Refused(why) => Head::Refused(why),
+        Step::Next(d) => {
+            let n = values[0] as usize;
+            if MOST_RULES < n {
+                return Head::Refused(wrong(0));
+            }
+            Head::Rules(n, d)
+        }
+    }
+}
+
+// The lines of `n` rules, and the end line.
+fn rule_lines(text: &[u8], c: Cursor, n: usize, rules: &mut [u32]) -> Read
+    requires { ⌜ Standing (now text) c × (n ≤ mostRules) ⌝ }
+    ensures { λ r. ⌜ PassIs (restFrom n (now (text .entry)) c) (now (rules .entry)) (now (rules .exit)) r ⌝ }
+{
+    let mut at = c.at;
+    let mut lines = c.lines;
+    let mut i = 0;
+    while i < n {
+        let here = Cursor { at, lines };
+        match rule_line(text, here, i, rules) {
+            Step::Refused(why) => return Read::Refused(why),
+            Step::Next(d) => {
+                at = d.at;
+                lines = d.lines;
+            }
+        }
+        i += 1;
+    }
+    end_line(text, Cursor { at, lines }, n)
+}
+
+// The line of rule `i`, whose words are put.
+fn rule_line(text: &[u8], c: Cursor, i: usize, rules: &mut [u32]) -> Step
+    requires { ⌜ Standing (now text) c × (i < mostRules) ⌝ }
+    ensures { λ r. ⌜ RuleIs (now (text .entry)) c i (now (rules .entry)) (now (rules .exit)) r ⌝ }
+{
+    let lines = c.lines;
+    let read = c.line(text, &RULE, &RULE_MARKS);
+    let said = read.said;
+    let values = read.values;
+    match said {
+        Step::Refused(why) => Step::Refused(why),
+        Step::Next(d) => {
+            if !rule_test(i, values) {
+                return Step::Refused(wrong(lines));
+            }
+            put_words(rules, i, rule_of(values));
+            Step::Next(d)
+        }
+    }
+}
+
+// The end line after `n` rules, with the number of lines before it. Nothing stands after it.
+fn end_line(text: &[u8], c: Cursor, n: usize) -> Read
+    requires { ⌜ Standing (now text) c × (n ≤ mostRules) ⌝ }
+    ensures { λ r. ⌜ EndIs (now (text .entry)) c n r ⌝ }
+{
+    let lines = c.lines;
+    let read = c.line(text, &END, &ONE_TAB);
+    let said = read.said;
+    let values = read.values;
+    match said {
+        Step::Refused(why) => Read::Refused(why),
+        Step::Next(d) => {
+            let at = d.at;
+            if values[0] as usize != n + 1 {
+                return Read::Refused(wrong(lines));
+            }
+            if at < text.len() {
+                return Read::Refused(wrong(d.lines));
+            }
+            Read::Rules { rules: n }
+        }
+    }
+}

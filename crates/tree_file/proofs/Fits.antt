@@ -1,0 +1,81 @@
+-- The text of a tree that is spelt is far shorter than the places of a text can count. The bounds are crude.
+--   numberMost    more bytes than a separator and a number of 32 bits take
+--   nodeMost      more bytes than a node's line takes
+use Prim.Native.Nat.{ℕ, zero, suc, _+_, _*_, _≤_, _<_, _^_}
+use native.Mathlib.Omega.{arith}
+use mathlib.Core.List.{List, [], _∷_}
+use lib.ListN.{length, length-append}
+use Rattle.facts.proofs.Cases.{Split, split, atMost, over}
+use Rattle.trees.specs.Words.{leafMark, nodeCount, fieldOf, countOf}
+use Rattle.text.specs.Words.{treeWord, cutWord, leafWord, endWord, oneTab, threeTabs, fourTabs}
+use Rattle.text.specs.Line.{printFields, printLine, AllBelow}
+use Rattle.text.specs.Text.{unlines}
+use Rattle.text.proofs.Numbers.{digits-length}
+use Rattle.text.proofs.Texts.{unlines-more}
+use Rattle.tree_file.specs.TreeLines.{cutNumbers, leafNumbers, leafMarks, nodeLine, nodeLines, headLine, endLine}
+use Rattle.tree_file.specs.TreeLines.{treeText, Spelling}
+use Rattle.tree_file.proofs.Growing.{cut-line, leaf-line}
+use Rattle.tree_file.proofs.Spelling.{sizes-of, spelt-of, few-nodes, entries-count, cut-below, leaf-below}
+
+abbrev numberMost : ℕ
+numberMost = 2 ^ 33
+
+abbrev nodeMost : ℕ
+nodeMost = 2 ^ 44
+
+-- ---- lines
+
+-- the numbers of a line take no more than so many bytes each
+fields-size :
+    (ms vs : List ℕ) → AllBelow (2 ^ 32) vs → length (printFields ms vs) ≤ length vs * numberMost
+unfolding printFields
+fields-size [] vs b = omega arith
+fields-size (m ∷ ms) [] b = omega arith
+fields-size (m ∷ ms) (v ∷ vs) b =
+    simp length-append (omega (arith, b .0, digits-length v, fields-size ms vs (b .1)))
+
+-- a line takes no more than its word and so many bytes for each number
+line-size :
+    (w ms vs : List ℕ) → AllBelow (2 ^ 32) vs → length (printLine w ms vs) ≤ length w + length vs * numberMost
+unfolding printLine
+line-size w ms vs b = simp length-append (omega (arith, fields-size ms vs b))
+
+module _ {n : ℕ} {ws es : List ℕ} (g : Spelling n ws es) (b : AllBelow (2 ^ 32) ws) where
+  -- a node's line takes fewer than so many bytes
+  node-size : (i : ℕ) → i < nodeCount ws → length (nodeLine ws es i) < nodeMost
+  node-size i h = go (split leafMark (fieldOf ws i))
+    where
+      go : Split leafMark (fieldOf ws i) → length (nodeLine ws es i) < nodeMost
+      go (atMost l) =
+          let s = spelt-of g .leaf i h l in
+          rw (leaf-line ws es i l)
+          (omega (
+            arith,
+            line-size leafWord (leafMarks (countOf ws i)) (leafNumbers ws es i) (leaf-below g b i h s),
+            entries-count g i s,
+            s .count,
+            g .few,
+          ))
+      go (over l) =
+          rw (cut-line ws es i l) (omega (arith, line-size cutWord fourTabs (cutNumbers ws i) (cut-below g b i h)))
+
+  -- the lines of the first i nodes take no more than so many bytes each
+  nodes-size : (i : ℕ) → i ≤ nodeCount ws → length (unlines (nodeLines ws es i)) ≤ i * nodeMost
+  unfolding nodeLines unlines
+  nodes-size zero h = omega arith
+  nodes-size (suc i) h =
+      rw (unlines-more (nodeLines ws es i) (nodeLine ws es i))
+      (simp length-append (omega (arith, nodes-size i (omega arith), node-size i (omega arith))))
+
+  -- the text of a tree that is spelt, the words of its nodes being of 32 bits, has fewer than 2 ^ 63 bytes
+  pub text-fits : length (treeText n ws es) < 2 ^ 63
+  unfolding treeText unlines
+  text-fits =
+      let m = nodeCount ws in
+      let head =
+      line-size treeWord threeTabs (n ∷ m ∷ length es ∷ [])
+      (omega (arith, g .few), (omega (arith, few-nodes g), (omega (arith, sizes-of g .short-pool), tt))) in
+      let end = line-size endWord oneTab ((m + 1) ∷ []) (omega (arith, few-nodes g), tt) in
+      let nodes = nodes-size m (omega arith) in
+      rw (unlines-more (headLine n m (length es) ∷ nodeLines ws es m) (endLine m))
+      (simp length-append (omega (arith, head, end, nodes, few-nodes g)))

@@ -1,0 +1,24 @@
+-- The laws of the tree file, by subject.
+pub mod Growing
+pub mod Midway
+pub mod Tests
+pub mod OneNode
+pub mod Leads
+pub mod Exact
+pub mod Spelling
+pub mod Back
+pub mod RoundTrips
+pub mod Fits
+pub mod Unique
+pub mod Calls
+pub mod Writing
+pub mod Storing
+pub mod Written
+pub mod Reading
+pub mod HeadEnd
+pub mod Entries
+pub mod LeafLine
+pub mod NodeLine
+pub mod Passes
+pub mod Answers
+pub mod Told

@@ -1,0 +1,112 @@
+-- The round trips: what is written reads back, what reads well is what would be written, and a file that is cut is
+-- refused.
+use Prim.Native.Nat.{ℕ, zero, suc, _+_, _≤_, _^_}
+use native.Mathlib.Omega.{arith}
+use native.Mathlib.Nat.{zero-add}
+use native.Mathlib.Numerals.{add-one}
+use mathlib.Core.Path.{_≡_, refl, sym, ap, _∙_}
+use mathlib.Core.Option.{none, some}
+use mathlib.Core.List.{List, [], _∷_, _++_, append-nil}
+use lib.ListN.{length}
+use Rattle.refusals.specs.declared.Refusal.the-variants.{TextStops}
+use Rattle.trees.specs.Words.{leafMark, nodeCount, fieldOf, countOf}
+use Rattle.text.specs.Words.{treeWord, cutWord, leafWord, endWord, oneTab, threeTabs, fourTabs}
+use Rattle.text.specs.Line.{AllBelow}
+use Rattle.text.specs.Text.{split, linesOf, good, refused, run}
+use Rattle.text.proofs.Lines.{none-some}
+use Rattle.text.proofs.Plain.{Plain, AllPlain, plain-of, all-plain-more, line-plain}
+use Rattle.text.proofs.Texts.{split-lines}
+use Rattle.text.proofs.Runs.{Walk, walk-more, walk-run}
+use Rattle.text.proofs.Cut.{cut}
+use Rattle.facts.proofs.Cases.{Split, split as compare, atMost, over as above}
+use Rattle.tree_file.specs.TreeText.{Tree, tree, State, start, within, over, step, finish, treeIn}
+use Rattle.tree_file.specs.TreeLines.{cutNumbers, leafNumbers, leafMarks, nodeLine, nodeLines, headLine, endLine}
+use Rattle.tree_file.specs.TreeLines.{treeLines, treeText, Spelling}
+use Rattle.tree_file.proofs.Growing.{cut-line, leaf-line}
+use Rattle.tree_file.proofs.Spelling.{tabs-plain}
+use Rattle.tree_file.proofs.Back.{after, head-back, node-back, end-back}
+use Rattle.tree_file.proofs.Exact.{text-says}
+
+-- ---- the lines have no newline among their bytes
+
+-- a node's line has none
+node-plain : (ws es : List ℕ) (i : ℕ) → Plain (nodeLine ws es i)
+node-plain ws es i = go (compare leafMark (fieldOf ws i))
+  where
+    go : Split leafMark (fieldOf ws i) → Plain (nodeLine ws es i)
+    go (atMost l) =
+        rw (leaf-line ws es i l)
+        (line-plain leafWord (leafMarks (countOf ws i)) (leafNumbers ws es i) (plain-of leafWord refl)
+        (tabs-plain (countOf ws i)))
+    go (above l) =
+        rw (cut-line ws es i l)
+        (line-plain cutWord fourTabs (cutNumbers ws i) (plain-of cutWord refl) (plain-of fourTabs refl))
+
+nodes-plain : (ws es : List ℕ) (i : ℕ) → AllPlain (nodeLines ws es i)
+unfolding nodeLines
+nodes-plain ws es zero = tt
+nodes-plain ws es (suc i) =
+    all-plain-more (nodeLines ws es i) (nodeLine ws es i) (nodes-plain ws es i) (node-plain ws es i)
+
+file-plain : (n : ℕ) (ws es : List ℕ) → AllPlain (treeLines n ws es)
+file-plain n ws es =
+    let m = nodeCount ws in (
+      line-plain treeWord threeTabs (n ∷ m ∷ length es ∷ []) (plain-of treeWord refl) (plain-of threeTabs refl),
+      all-plain-more (nodeLines ws es m) (endLine m) (nodes-plain ws es m)
+          (line-plain endWord oneTab ((m + 1) ∷ []) (plain-of endWord refl) (plain-of oneTab refl)),
+    )
+
+-- ---- what is written reads back
+
+module _ {n : ℕ} {ws es : List ℕ} (g : Spelling n ws es) (b : AllBelow (2 ^ 32) ws) where
+  -- the first line and the lines of the first i nodes lead to the state after them
+  walked :
+      (i : ℕ) → i ≤ nodeCount ws →
+      Walk step finish start (headLine n (nodeCount ws) (length es) ∷ nodeLines ws es i) (after g b i)
+  unfolding nodeLines
+  walked zero h = Walk.go (head-back g b) Walk.here
+  walked (suc i) h =
+      walk-more step finish (walked i (omega arith)) (rw add-one at (node-back g b i (omega arith)))
+
+  -- the text of a tree that is spelt, the words of its nodes being of 32 bits, says that tree
+  pub read-of-written : treeIn (treeText n ws es) ≡ good (tree n ws es)
+  unfolding treeIn treeText run finish
+  read-of-written =
+      let ls = treeLines n ws es in
+      let all = walk-more step finish (walked (nodeCount ws) (omega arith)) (end-back g b) in
+      rw (split-lines ls (file-plain n ws es))
+      (ap (λ (ms : List (List ℕ)). run step finish start 0 ms []) (sym (append-nil ls)) ∙
+      walk-run step finish 0 [] [] all)
+
+-- ---- what reads well
+
+-- a text that says a tree is the text of that tree
+pub written-of-read :
+    (s : List ℕ) (n : ℕ) (nodes pool : List ℕ) → treeIn s ≡ good (tree n nodes pool) → treeText n nodes pool ≡ s
+written-of-read s n nodes pool e = sym (text-says s n nodes pool e .text)
+
+-- what a text says is spelt
+pub spelling-of-read :
+    (s : List ℕ) (n : ℕ) (nodes pool : List ℕ) → treeIn s ≡ good (tree n nodes pool) → Spelling n nodes pool
+spelling-of-read s n nodes pool e = text-says s n nodes pool e .spelling
+
+-- the words of the nodes that a text says are of 32 bits
+pub below-of-read :
+    (s : List ℕ) (n : ℕ) (nodes pool : List ℕ) → treeIn s ≡ good (tree n nodes pool) → AllBelow (2 ^ 32) nodes
+below-of-read s n nodes pool e = text-says s n nodes pool e .below
+
+-- ---- what is cut
+
+-- a state that holds a tree takes no more lines
+no-more : (st : State) (l : List ℕ) (t : Tree) → finish st ≡ some t → step st l ≡ none
+unfolding step finish
+no-more start l t e = none-some e
+no-more (within n m p i ws es) l t e = none-some e
+no-more (over u) l t e = refl
+
+-- a text that says a tree, cut before its end, is refused with 10 and the number of whole lines that are left
+pub cut-refused :
+    (p q : List ℕ) (t : Tree) → treeIn (p ++ q) ≡ good t → (q ≡ [] → ⊥) →
+    treeIn p ≡ refused (TextStops (length (linesOf (split p))))
+unfolding treeIn
+cut-refused p q t e more = cut step finish no-more start 0 p q t more e ∙ rw zero-add

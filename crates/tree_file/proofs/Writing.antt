@@ -1,0 +1,104 @@
+-- The text of a tree, part by part, as it is put.
+--   entriesTo es j     the first j entries of a leaf line, each behind a tab
+use Prim.Native.Nat.{ℕ, zero, suc, _+_, _-_, _≤_, _<_}
+use native.Mathlib.Omega.{arith}
+use mathlib.Core.Path.{_≡_, refl, sym, ap, _∙_}
+use mathlib.Core.List.{List, [], _∷_, _++_, append-assoc, append-nil}
+use lib.ListN.{length, getD, take, drop, replicate, length-replicate, length-take, length-drop}
+use Rattle.text.specs.Words.{newline, tab, cutWord, leafWord, twoTabs, fourTabs}
+use Rattle.text.specs.Numbers.{digitsOf}
+use Rattle.text.specs.Line.{printFields, printLine}
+use Rattle.text.specs.Text.{unlines}
+use Rattle.text.proofs.Puts.{fields-more, values-spent}
+use Rattle.text.proofs.Texts.{unlines-more}
+use Rattle.trees.specs.Words.{leafMark, nodeCount, fieldOf, startOf, countOf}
+use Rattle.trees.proofs.Spelling.{part-is-entries}
+use Rattle.tree_file.specs.TreeLines.{cutNumbers, leafMarks, nodeLine, nodeLines, headLine, endLine, treeText}
+use Rattle.tree_file.proofs.Growing.{cut-line, leaf-line}
+use Rattle.tree_file.proofs.Midway.{lines-step}
+
+-- ---- the entries of a leaf line
+
+-- each separator of so many tabs is a tab
+tab-at : (n j : ℕ) → j < n → getD (replicate n tab) j 0 ≡ tab
+tab-at zero j h = absurd (omega arith)
+tab-at (suc n) zero h = refl
+tab-at (suc n) (suc j) h = tab-at n j (omega arith)
+
+unfoldable pub entriesTo : List ℕ → ℕ → List ℕ
+entriesTo es j = printFields (take j (replicate (length es) tab)) (take j es)
+
+-- no entries
+pub entries-none : (es : List ℕ) → [] ≡ entriesTo es 0
+unfolding entriesTo printFields
+entries-none es = refl
+
+-- one entry more
+pub entries-more :
+    (es : List ℕ) (j : ℕ) → j < length es → entriesTo es j ++ (tab ∷ digitsOf (getD es j 0)) ≡ entriesTo es (j + 1)
+unfolding entriesTo
+entries-more es j h =
+    ap (λ (m : ℕ). entriesTo es j ++ (m ∷ digitsOf (getD es j 0))) (sym (tab-at (length es) j h)) ∙
+    fields-more (replicate (length es) tab) es j (rw (length-replicate (length es) tab) h) h
+
+-- all entries
+pub entries-all :
+    (es : List ℕ) (j : ℕ) → length es ≤ j → entriesTo es j ≡ printFields (replicate (length es) tab) es
+unfolding entriesTo
+entries-all es j h = values-spent (replicate (length es) tab) es j h
+
+-- the parts of a leaf line make it
+pub leaf-parts :
+    (i c : ℕ) (ms es : List ℕ) →
+    ((leafWord ++ printFields twoTabs (i ∷ c ∷ [])) ++ printFields ms es) ++ (newline ∷ []) ≡
+    printLine leafWord (tab ∷ tab ∷ ms) (i ∷ c ∷ es) ++ (newline ∷ [])
+unfolding printLine printFields
+leaf-parts i c ms es = simp (append-assoc, append-nil)
+
+-- ---- the line of a node
+
+module _ (ws es : List ℕ) (i : ℕ) where
+  -- a cut's line with its newline
+  pub cut-with-newline :
+      fieldOf ws i < leafMark →
+      printLine cutWord fourTabs (cutNumbers ws i) ++ (newline ∷ []) ≡ nodeLine ws es i ++ (newline ∷ [])
+  cut-with-newline l = ap (λ (u : List ℕ). u ++ (newline ∷ [])) (sym (cut-line ws es i l))
+
+  -- a leaf's line with its newline, the entries being this part of the pool
+  pub leaf-with-newline :
+      (s k : ℕ) → leafMark ≤ fieldOf ws i → s ≡ startOf ws i → k ≡ countOf ws i → s + k ≤ length es →
+      printLine leafWord (leafMarks (length (take (s + k - s) (drop s es))))
+      (i ∷ countOf ws i ∷ take (s + k - s) (drop s es)) ++ (newline ∷ []) ≡ nodeLine ws es i ++ (newline ∷ [])
+  leaf-with-newline s k l p q h =
+      let size : length (take (s + k - s) (drop s es)) ≡ countOf ws i =
+      simp (length-take, length-drop) (omega arith) in
+      let part = part-is-entries ws es i s k p q in
+      rw (size, part) (ap (λ (u : List ℕ). u ++ (newline ∷ [])) (sym (leaf-line ws es i l)))
+
+-- ---- the whole text
+
+-- before the first node no line is put
+pub nodes-none : (ws es : List ℕ) → [] ≡ unlines (nodeLines ws es 0)
+unfolding nodeLines unlines
+nodes-none ws es = refl
+
+-- one node more
+pub nodes-more :
+    (ws es : List ℕ) (i : ℕ) →
+    unlines (nodeLines ws es i) ++ (nodeLine ws es i ++ (newline ∷ [])) ≡ unlines (nodeLines ws es (i + 1))
+nodes-more ws es i = rw (lines-step ws es i) (sym (unlines-more (nodeLines ws es i) (nodeLine ws es i)))
+
+-- the first line, those of all nodes, and the end line make the text
+pub text-parts :
+    (n : ℕ) (ws es : List ℕ) (i : ℕ) → i ≡ nodeCount ws →
+    ((headLine n (nodeCount ws) (length es) ++ (newline ∷ [])) ++ unlines (nodeLines ws es i)) ++
+    (endLine (nodeCount ws) ++ (newline ∷ [])) ≡
+    treeText n ws es
+unfolding treeText unlines
+text-parts n ws es i e =
+    let m = nodeCount ws in
+    let head = headLine n m (length es) in
+    let front = append-assoc head (newline ∷ []) (unlines (nodeLines ws es m)) in
+    rw e
+    (ap (λ (u : List ℕ). u ++ (endLine m ++ (newline ∷ []))) front ∙
+    sym (unlines-more (head ∷ nodeLines ws es m) (endLine m)))

@@ -1,0 +1,169 @@
+// Writing a tree file, line by line.
+use crate::words::wide;
+use refusals::Refusal;
+use refusals::Verdict;
+use rules::words::MOST_RULES;
+use text::put::put;
+use text::put::put_behind;
+use text::put::put_bytes;
+use text::put::put_fields;
+use text::put::put_line;
+use text::words::CUT;
+use text::words::END;
+use text::words::FOUR_TABS;
+use text::words::LEAF;
+use text::words::NEWLINE;
+use text::words::ONE_TAB;
+use text::words::TAB;
+use text::words::THREE_TABS;
+use text::words::TREE;
+use text::words::TWO_TABS;
+use trees::spelt::size_verdict;
+use trees::spelt::spelt_verdict;
+use trees::words::CHILD;
+use trees::words::FIRST;
+use trees::words::LEAF_MARK;
+use trees::words::NODE_WORDS;
+use trees::words::VALUE;
+ghost use Prim.Native.Nat.{_≤_};
+ghost use mathlib.Core.Path.{_≡_};
+ghost use mathlib.Core.List.{[], _∷_, _++_};
+ghost use lib.ListN.{length, replicate};
+ghost use Rattle.trees.specs.Words.{mostNodes};
+ghost use Rattle.text.specs.Words.{newline, tab, cutWord, leafWord, fourTabs};
+ghost use Rattle.text.specs.Line.{printFields, printLine};
+ghost use Rattle.text.specs.Puts.{Put};
+ghost use Rattle.tree_file.specs.TreeLines.{headLine, endLine, nodeLine, leafMarks, treeText, Spelling};
+ghost use Rattle.tree_file.specs.WriteTree.{treeVerdict, TreeWritten};
+ghost use Rattle.tree_file.specs.WriteSteps.{Writable};
+
+pub enum Written {
+    Refused(Refusal),
+    Bytes { bytes: usize },
+}
+
+// The file of a tree, there being so many rules, from the front of `text` on; the rest of `text` is as found. A refusal
+// writes nothing: the file is written once into no room, which counts its bytes, then into the whole.
+pub fn write_tree(rules: usize, nodes: &[u32], pool: &[u32], text: &mut [u8]) -> Written
+    ensures { λ r. ⌜ TreeWritten rules (now (nodes .entry)) (now (pool .entry)) (now (text .entry)) r
+        (now (text .exit)) ⌝ }
+{
+    match tree_verdict(rules, nodes, pool) {
+        Verdict::Refused(why) => Written::Refused(why),
+        Verdict::Fine => write_fitting(rules, nodes, pool, text),
+    }
+}
+
+// Whether there is such a file: the number of rules, the sizes, then *spelt*.
+fn tree_verdict(rules: usize, nodes: &[u32], pool: &[u32]) -> Verdict
+    ensures { λ r. ⌜ r ≡ treeVerdict rules (now (nodes .entry)) (now (pool .entry)) ⌝ }
+{
+    if MOST_RULES < rules {
+        return Verdict::Refused(Refusal::RuleWordsWrong);
+    }
+    match size_verdict(nodes, pool) {
+        Verdict::Refused(why) => Verdict::Refused(why),
+        Verdict::Fine => spelt_verdict(rules, nodes, pool),
+    }
+}
+
+// The file, if there is room for it.
+fn write_fitting(rules: usize, nodes: &[u32], pool: &[u32], text: &mut [u8]) -> Written
+    requires { ⌜ Spelling rules (now nodes) (now pool) ⌝ }
+    ensures { λ r. ⌜ TreeWritten rules (now (nodes .entry)) (now (pool .entry)) (now (text .entry)) r
+        (now (text .exit)) ⌝ }
+{
+    let needed = write_pass(rules, nodes, pool, &mut text[..0]);
+    if text.len() < needed {
+        return Written::Refused(Refusal::OutputShort { needed, output: 0 });
+    }
+    Written::Bytes {
+        bytes: write_pass(rules, nodes, pool, text),
+    }
+}
+
+// The whole file, as far as there is room; and its length.
+fn write_pass(rules: usize, nodes: &[u32], pool: &[u32], text: &mut [u8]) -> usize
+    requires { ⌜ Spelling rules (now nodes) (now pool) ⌝ }
+    ensures { λ r. ⌜ Put (now (text .entry)) 0 (treeText rules (now (nodes .entry)) (now (pool .entry)))
+        (now (text .exit)) r ⌝ }
+{
+    let count = nodes.len() / NODE_WORDS;
+    let mut at = put_head(text, rules as u32, count as u32, pool.len() as u32);
+    let mut i = 0;
+    while i < count {
+        at = put_node(text, at, nodes, pool, i);
+        i += 1;
+    }
+    put_end(text, at, count as u32)
+}
+
+// The first line.
+fn put_head(text: &mut [u8], rules: u32, nodes: u32, pool: u32) -> usize
+    ensures { λ r. ⌜ Put (now (text .entry)) 0 (headLine rules nodes pool ++ (newline ∷ [])) (now (text .exit)) r ⌝ }
+{
+    let values = [rules, nodes, pool];
+    put_line(text, 0, &TREE, &THREE_TABS, &values)
+}
+
+// The line of node `i`. A leaf's start and count stand where a cut has its value and its right child.
+fn put_node(text: &mut [u8], at: usize, nodes: &[u32], pool: &[u32], i: usize) -> usize
+    requires { ⌜ Writable (now nodes) (now pool) i ⌝ }
+    ensures { λ r. ⌜ Put (now (text .entry)) at (nodeLine (now (nodes .entry)) (now (pool .entry)) i ++ (newline ∷ []))
+        (now (text .exit)) r ⌝ }
+{
+    let first = nodes[i * NODE_WORDS + FIRST];
+    let second = nodes[i * NODE_WORDS + VALUE];
+    let third = nodes[i * NODE_WORDS + CHILD];
+    if wide(first) < LEAF_MARK {
+        return put_cut(text, at, i as u32, first, second, third);
+    }
+    let start = wide(second);
+    let end = start + wide(third);
+    put_leaf(text, at, i as u32, third, &pool[start..end])
+}
+
+// The line of a cut.
+fn put_cut(text: &mut [u8], at: usize, i: u32, field: u32, value: u32, child: u32) -> usize
+    ensures { λ r. ⌜ Put (now (text .entry)) at
+        (printLine cutWord fourTabs (i ∷ field ∷ value ∷ child ∷ []) ++ (newline ∷ [])) (now (text .exit)) r ⌝ }
+{
+    let values = [i, field, value, child];
+    put_line(text, at, &CUT, &FOUR_TABS, &values)
+}
+
+// The line of a leaf.
+fn put_leaf(text: &mut [u8], at: usize, i: u32, count: u32, entries: &[u32]) -> usize
+    ensures { λ r. ⌜ Put (now (text .entry)) at
+        (printLine leafWord (leafMarks (length (now (entries .entry)))) (i ∷ count ∷ now (entries .entry)) ++
+        (newline ∷ [])) (now (text .exit)) r ⌝ }
+{
+    let p = put_bytes(text, at, &LEAF);
+    let values = [i, count];
+    let q = put_fields(text, p, &TWO_TABS, &values);
+    let r = put_entries(text, q, entries);
+    put(text, r, NEWLINE)
+}
+
+// Each entry behind a tab.
+fn put_entries(text: &mut [u8], at: usize, entries: &[u32]) -> usize
+    ensures { λ r. ⌜ Put (now (text .entry)) at
+        (printFields (replicate (length (now (entries .entry))) tab) (now (entries .entry))) (now (text .exit)) r ⌝ }
+{
+    let mut p = at;
+    let mut j = 0;
+    while j < entries.len() {
+        p = put_behind(text, p, TAB, entries[j]);
+        j += 1;
+    }
+    p
+}
+
+// The end line.
+fn put_end(text: &mut [u8], at: usize, nodes: u32) -> usize
+    requires { ⌜ nodes ≤ mostNodes ⌝ }
+    ensures { λ r. ⌜ Put (now (text .entry)) at (endLine nodes ++ (newline ∷ [])) (now (text .exit)) r ⌝ }
+{
+    let values = [nodes + 1];
+    put_line(text, at, &END, &ONE_TAB, &values)
+}

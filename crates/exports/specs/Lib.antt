@@ -1,2 +1,3 @@
 -- The answers of the C functions.
 pub mod Answers
+pub mod FileAnswers

@@ -3,6 +3,10 @@
 // then the call's values; what is not used is 0. Rests on all libraries.
 //   line::wick_rule_check, line::wick_line_all, line::wick_line_first
 //   tree::wick_tree_all, tree::wick_tree_first, tree::wick_tree_check
+//   rule_text::wick_rules_write, rule_text::wick_rules_read
+//   tree_text::wick_tree_write, tree_text::wick_tree_read
 pub mod answer;
 pub mod line;
+pub mod rule_text;
 pub mod tree;
+pub mod tree_text;

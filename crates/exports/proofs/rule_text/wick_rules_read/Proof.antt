@@ -1,0 +1,25 @@
+-- `exports::rule_text::wick_rules_read` meets its contract: what the reader answers, as eight words, and what it
+-- leaves. Assumes nothing.
+use mathlib.Core.Path.{ap, _∙_}
+use borrow.Author.Needs.{needs}
+use Rattle.exports.specs.Answers.{eight}
+use Rattle.exports.proofs.rule_text.wick_rules_read.Statement.{statement}
+use Rattle.exports.proofs.rule_text.wick_rules_read.Tie as tie
+
+read-rules-requires : tie.Need-read-rules-requires
+read-rules-requires c κs = search needs
+
+of-read-requires : tie.Need-of-read-requires
+of-read-requires c κs = search needs
+
+same-length : tie.Need-same-length
+same-length c = search needs
+
+returns : tie.Need-returns
+returns c =
+    let said = c .before .before .before .read-rules .ensures in
+    record { answers = c .of-read .ensures ∙ ap eight (said .answers); leaves = said .leaves }
+
+pub wick-rules-read-spec : {M : Type 1} → statement M
+wick-rules-read-spec =
+    tie.close (tie.spec read-rules-requires of-read-requires same-length returns)

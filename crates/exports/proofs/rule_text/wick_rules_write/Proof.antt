@@ -1,0 +1,25 @@
+-- `exports::rule_text::wick_rules_write` meets its contract: what the writer answers, as eight words, and what it
+-- leaves. Assumes nothing.
+use mathlib.Core.Path.{ap, _∙_}
+use borrow.Author.Needs.{needs}
+use Rattle.exports.specs.Answers.{eight}
+use Rattle.exports.proofs.rule_text.wick_rules_write.Statement.{statement}
+use Rattle.exports.proofs.rule_text.wick_rules_write.Tie as tie
+
+write-rules-requires : tie.Need-write-rules-requires
+write-rules-requires c κs = search needs
+
+of-written-requires : tie.Need-of-written-requires
+of-written-requires c κs = search needs
+
+same-length : tie.Need-same-length
+same-length c = search needs
+
+returns : tie.Need-returns
+returns c =
+    let said = c .before .before .before .write-rules .ensures in
+    record { answers = c .of-written .ensures ∙ ap eight (said .answers); leaves = said .leaves }
+
+pub wick-rules-write-spec : {M : Type 1} → statement M
+wick-rules-write-spec =
+    tie.close (tie.spec write-rules-requires of-written-requires same-length returns)

@@ -1,0 +1,32 @@
+-- `exports::tree_text::wick_tree_read` meets its contract: what the reader answers, as eight words, and what it
+-- leaves. Assumes nothing.
+use mathlib.Core.Path.{ap, _∙_}
+use borrow.Author.Needs.{needs}
+use Rattle.exports.specs.Answers.{eight}
+use Rattle.exports.proofs.tree_text.wick_tree_read.Statement.{statement}
+use Rattle.exports.proofs.tree_text.wick_tree_read.Tie as tie
+
+read-tree-requires : tie.Need-read-tree-requires
+read-tree-requires c κs = search needs
+
+of-read-requires : tie.Need-of-read-requires
+of-read-requires c κs = search needs
+
+same-length : tie.Need-same-length
+same-length c = search needs
+
+same-length-2 : tie.Need-same-length-2
+same-length-2 c = search needs
+
+returns : tie.Need-returns
+returns c =
+    let said = c .before .before .before .before .before .read-tree .ensures in
+    record {
+      answers = c .of-read .ensures ∙ ap eight (said .answers);
+      leaves-nodes = said .leaves-nodes;
+      leaves-pool = said .leaves-pool;
+    }
+
+pub wick-tree-read-spec : {M : Type 1} → statement M
+wick-tree-read-spec =
+    tie.close (tie.spec read-tree-requires of-read-requires same-length same-length-2 returns)

@@ -1,0 +1,25 @@
+-- `exports::tree_text::wick_tree_write` meets its contract: what the writer answers, as eight words, and what it
+-- leaves. Assumes nothing.
+use mathlib.Core.Path.{ap, _∙_}
+use borrow.Author.Needs.{needs}
+use Rattle.exports.specs.Answers.{eight}
+use Rattle.exports.proofs.tree_text.wick_tree_write.Statement.{statement}
+use Rattle.exports.proofs.tree_text.wick_tree_write.Tie as tie
+
+write-tree-requires : tie.Need-write-tree-requires
+write-tree-requires c κs = search needs
+
+of-written-requires : tie.Need-of-written-requires
+of-written-requires c κs = search needs
+
+same-length : tie.Need-same-length
+same-length c = search needs
+
+returns : tie.Need-returns
+returns c =
+    let said = c .before .before .before .write-tree .ensures in
+    record { answers = c .of-written .ensures ∙ ap eight (said .answers); leaves = said .leaves }
+
+pub wick-tree-write-spec : {M : Type 1} → statement M
+wick-tree-write-spec =
+    tie.close (tie.spec write-tree-requires of-written-requires same-length returns)

@@ -1,0 +1,45 @@
+// The writer and the reader of the rule file as C functions.
+use crate::answer::of_refusal;
+use rule_file::read::Read;
+use rule_file::write::Written;
+ghost use mathlib.Core.Path.{_≡_};
+ghost use Rattle.rule_file.specs.ReadRules as read;
+ghost use Rattle.rule_file.specs.WriteRules as written;
+ghost use Rattle.exports.specs.Answers.{eight};
+ghost use Rattle.exports.specs.FileAnswers.{RulesWriteAnswered, RulesReadAnswered};
+
+// The value: the bytes that were written to `text`.
+#[no_mangle]
+pub extern "C" fn wick_rules_write(rules: &[u32], text: &mut [u8], answer: &mut [u64; 8])
+    ensures { λ _. ⌜ RulesWriteAnswered (now (rules .entry)) (now (text .entry)) (now (text .exit))
+        (now (answer .exit)) ⌝ }
+{
+    *answer = of_written(rule_file::write::write_rules(rules, text));
+}
+
+// The value: the number of rules, whose words were written to `rules`.
+#[no_mangle]
+pub extern "C" fn wick_rules_read(text: &[u8], rules: &mut [u32], answer: &mut [u64; 8])
+    ensures { λ _. ⌜ RulesReadAnswered (now (text .entry)) (now (rules .entry)) (now (rules .exit))
+        (now (answer .exit)) ⌝ }
+{
+    *answer = of_read(rule_file::read::read_rules(text, rules));
+}
+
+fn of_written(said: Written) -> [u64; 8]
+    ensures { λ r. ⌜ r ≡ eight (written.paper said) ⌝ }
+{
+    match said {
+        Written::Refused(why) => of_refusal(why),
+        Written::Bytes { bytes } => [0, 0, 0, bytes as u64, 0, 0, 0, 0],
+    }
+}
+
+fn of_read(said: Read) -> [u64; 8]
+    ensures { λ r. ⌜ r ≡ eight (read.paper said) ⌝ }
+{
+    match said {
+        Read::Refused(why) => of_refusal(why),
+        Read::Rules { rules } => [0, 0, 0, rules as u64, 0, 0, 0, 0],
+    }
+}

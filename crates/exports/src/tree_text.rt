@@ -1,0 +1,58 @@
+// The writer and the reader of the tree file as C functions.
+use crate::answer::of_refusal;
+use tree_file::read::Read;
+use tree_file::write::Written;
+ghost use mathlib.Core.Path.{_≡_};
+ghost use Rattle.tree_file.specs.ReadTree as read;
+ghost use Rattle.tree_file.specs.WriteTree as written;
+ghost use Rattle.exports.specs.Answers.{eight};
+ghost use Rattle.exports.specs.FileAnswers.{TreeWriteAnswered, TreeReadAnswered};
+
+// The value: the bytes that were written to `text`, there being `rules` rules.
+#[no_mangle]
+pub extern "C" fn wick_tree_write(
+    rules: u64,
+    nodes: &[u32],
+    pool: &[u32],
+    text: &mut [u8],
+    answer: &mut [u64; 8],
+)
+    ensures { λ _. ⌜ TreeWriteAnswered rules (now (nodes .entry)) (now (pool .entry)) (now (text .entry))
+        (now (text .exit)) (now (answer .exit)) ⌝ }
+{
+    *answer = of_written(tree_file::write::write_tree(rules as usize, nodes, pool, text));
+}
+
+// The values: the numbers of rules, nodes and pool words; the last two were written to `nodes` and `pool`.
+#[no_mangle]
+pub extern "C" fn wick_tree_read(
+    text: &[u8],
+    nodes: &mut [u32],
+    pool: &mut [u32],
+    answer: &mut [u64; 8],
+)
+    ensures { λ _. ⌜ TreeReadAnswered (now (text .entry)) (now (nodes .entry)) (now (pool .entry)) (now (nodes .exit))
+        (now (pool .exit)) (now (answer .exit)) ⌝ }
+{
+    *answer = of_read(tree_file::read::read_tree(text, nodes, pool));
+}
+
+fn of_written(said: Written) -> [u64; 8]
+    ensures { λ r. ⌜ r ≡ eight (written.paper said) ⌝ }
+{
+    match said {
+        Written::Refused(why) => of_refusal(why),
+        Written::Bytes { bytes } => [0, 0, 0, bytes as u64, 0, 0, 0, 0],
+    }
+}
+
+fn of_read(said: Read) -> [u64; 8]
+    ensures { λ r. ⌜ r ≡ eight (read.paper said) ⌝ }
+{
+    match said {
+        Read::Refused(why) => of_refusal(why),
+        Read::Tree { rules, nodes, pool } => {
+            [0, 0, 0, rules as u64, nodes as u64, pool as u64, 0, 0]
+        }
+    }
+}

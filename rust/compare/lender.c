@@ -12,6 +12,7 @@
 
 #include "../../include/wickorchard.h"
 
+typedef wick_byte u8;
 typedef wick_word u32;
 typedef wick_count u64;
 
@@ -30,13 +31,14 @@ enum { SHARED = 0x01, PRIVATE = 0x02, FIXED = 0x10, NO_FILE = 0x20 }; // MAP_..,
 
 // The calls' numbers, as `abi.rs` has them.
 enum { RULE_CHECK = 1, LINE_ALL = 2, LINE_FIRST = 3, TREE_ALL = 4, TREE_FIRST = 5, TREE_CHECK = 6 };
+enum { RULES_WRITE = 7, RULES_READ = 8, TREE_WRITE = 9, TREE_READ = 10 };
 
 // The bytes on either side of the arena that a call may not touch: one that does ends the program.
 enum { MARGIN = 1 << 20 };
 
 struct slice {
     u64 offset; // where it begins, in bytes from the arena's start
-    u64 length; // as the call takes it
+    u64 length; // as the call takes it, in elements
 };
 
 // One request, as `abi.rs` writes it. What a call does not take is 0.
@@ -47,8 +49,9 @@ struct request {
     u64 answer; // where the answer begins, in bytes from the arena's start
 };
 
-// Slice `i` as a call takes it, where its elements are 32-bit words.
+// Slice `i` as a call takes it, where its elements are 32-bit words, and where they are bytes.
 #define WORDS(i) (u32 *)(arena + asked->slices[i].offset), asked->slices[i].length
+#define BYTES(i) (u8 *)(arena + asked->slices[i].offset), asked->slices[i].length
 
 // Makes the call that is asked for, and gives its number; gives 0 where there is no such call.
 static u64 make_call(char *arena, const struct request *asked) {
@@ -72,6 +75,18 @@ static u64 make_call(char *arena, const struct request *asked) {
     case TREE_CHECK:
         wick_tree_check(WORDS(0), WORDS(1), WORDS(2), answer);
         return TREE_CHECK;
+    case RULES_WRITE:
+        wick_rules_write(WORDS(0), BYTES(1), answer);
+        return RULES_WRITE;
+    case RULES_READ:
+        wick_rules_read(BYTES(0), WORDS(1), answer);
+        return RULES_READ;
+    case TREE_WRITE:
+        wick_tree_write(asked->number, WORDS(0), WORDS(1), BYTES(2), answer);
+        return TREE_WRITE;
+    case TREE_READ:
+        wick_tree_read(BYTES(0), WORDS(1), WORDS(2), answer);
+        return TREE_READ;
     default:
         return 0;
     }

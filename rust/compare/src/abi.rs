@@ -10,7 +10,7 @@ pub const ANSWER_WORDS: usize = 8;
 /// The most slices that a request names, besides the answer.
 const MOST_SLICES: usize = 6;
 /// The words of a request: the call, an offset and a length for each slice, a number, and the answer's offset.
-pub const REQUEST_WORDS: usize = 1 + 2 * MOST_SLICES + 2;
+const REQUEST_WORDS: usize = 1 + 2 * MOST_SLICES + 2;
 
 /// Words of 32 and of 64 bits are shared with x86-64 code, which puts the lowest byte first.
 const _: () = assert!(cfg!(target_endian = "little"));
@@ -24,6 +24,10 @@ pub enum Call {
     TreeAll = 4,
     TreeFirst = 5,
     TreeCheck = 6,
+    RulesWrite = 7,
+    RulesRead = 8,
+    TreeWrite = 9,
+    TreeRead = 10,
 }
 
 impl Call {
@@ -36,6 +40,10 @@ impl Call {
             Call::TreeAll => "wick_tree_all",
             Call::TreeFirst => "wick_tree_first",
             Call::TreeCheck => "wick_tree_check",
+            Call::RulesWrite => "wick_rules_write",
+            Call::RulesRead => "wick_rules_read",
+            Call::TreeWrite => "wick_tree_write",
+            Call::TreeRead => "wick_tree_read",
         }
     }
 
@@ -45,16 +53,28 @@ impl Call {
     }
 }
 
-/// Asks for the call with these slices, in the order of its parameters. No call takes a number, so it is 0.
-pub fn request(call: Call, slices: &[Lent], answer: Lent) -> [u64; REQUEST_WORDS] {
-    assert!(slices.len() <= MOST_SLICES);
-    let mut words = [0; REQUEST_WORDS];
-    words[0] = call.number();
-    for (pair, slice) in words[1..].chunks_exact_mut(2).zip(slices) {
-        pair.copy_from_slice(&[slice.offset(), slice.length()]);
+/// What the lender is asked for.
+pub struct Request<'a> {
+    pub call: Call,
+    /// In the order of the call's parameters.
+    pub slices: &'a [Lent],
+    /// 0 where the call takes no number.
+    pub number: u64,
+    pub answer: Lent,
+}
+
+impl Request<'_> {
+    /// The request as `lender.c` reads it.
+    pub fn words(&self) -> [u64; REQUEST_WORDS] {
+        assert!(self.slices.len() <= MOST_SLICES);
+        let mut words = [0; REQUEST_WORDS];
+        words[0] = self.call.number();
+        for (pair, slice) in words[1..].chunks_exact_mut(2).zip(self.slices) {
+            pair.copy_from_slice(&[slice.offset(), slice.length()]);
+        }
+        words[REQUEST_WORDS - 2..].copy_from_slice(&[self.number, self.answer.offset()]);
+        words
     }
-    words[REQUEST_WORDS - 1] = answer.offset();
-    words
 }
 
 /// The words that a call must write where this is its answer.

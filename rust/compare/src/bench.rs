@@ -1,13 +1,15 @@
 //! One call of the library beside the same call of the oracle, with all lent memory compared after it.
 
+mod files;
+
 use std::io::{self, Write};
 use std::time::Instant;
 
 use oracle::rules::MOST_RULES;
 use oracle::Answer;
 
-use crate::abi::{answer_words, Call};
-use crate::arena::{Arena, Lent};
+use crate::abi::{answer_words, Call, Request};
+use crate::arena::{unwritten_words, Arena, Lent};
 use crate::lender::{Lender, Silence};
 use crate::mapping::Mapping;
 use crate::mismatch::{Deed, Inputs, Mismatch};
@@ -31,9 +33,9 @@ pub struct Bench {
 }
 
 impl Bench {
-    /// A bench whose calls are made by this lender, in these words that both have mapped.
-    pub fn new(lender: Lender, words: Mapping) -> Bench {
-        Bench { lender, arena: Arena::of(words), group: String::new(), calls: 0, tally: Tally::default(), judged: 0 }
+    /// A bench whose calls are made by this lender, in these bytes that both have mapped.
+    pub fn new(lender: Lender, bytes: Mapping) -> Bench {
+        Bench { lender, arena: Arena::of(bytes), group: String::new(), calls: 0, tally: Tally::default(), judged: 0 }
     }
 
     /// Lets the lender end, which must be willing to. Gives how many calls were compared.
@@ -62,7 +64,7 @@ impl Bench {
         self.arena.take_back();
         let lent_rules = self.arena.lend("rules", rules);
         let answer = oracle::rule_check(rules);
-        let inputs = Inputs { call: Call::RuleCheck, case, rules, tree: None, header: None, room: None };
+        let inputs = Inputs { rules: Some(rules), ..Inputs::of(Call::RuleCheck, case) };
         self.compare(inputs, &[lent_rules], answer)
     }
 
@@ -70,9 +72,12 @@ impl Bench {
         self.arena.take_back();
         let lent_rules = self.arena.lend("rules", rules);
         let lent_header = self.arena.lend("header", header);
-        let lent_out = self.arena.lend_room("out", room);
-        let answer = oracle::line_all(rules, header, self.arena.wanted(lent_out));
-        let inputs = Inputs { call: Call::LineAll, case, rules, tree: None, header: Some(header), room: Some(room) };
+        let mut out = unwritten_words(room);
+        let lent_out = self.arena.lend("out", &out);
+        let answer = oracle::line_all(rules, header, &mut out);
+        self.arena.want(lent_out, &out);
+        let named = Inputs::of(Call::LineAll, case);
+        let inputs = Inputs { rules: Some(rules), header: Some(header), rooms: &[room], ..named };
         self.compare(inputs, &[lent_rules, lent_header, lent_out], answer)
     }
 
@@ -81,13 +86,15 @@ impl Bench {
         let lent_rules = self.arena.lend("rules", rules);
         let lent_header = self.arena.lend("header", header);
         let answer = oracle::line_first(rules, header);
-        let inputs = Inputs { call: Call::LineFirst, case, rules, tree: None, header: Some(header), room: None };
+        let inputs = Inputs { rules: Some(rules), header: Some(header), ..Inputs::of(Call::LineFirst, case) };
         self.compare(inputs, &[lent_rules, lent_header], answer)
     }
 
-    /// All calls on a list. All-match has room for a number of every rule, and one over; its answer is given back.
+    /// All calls on a list. The writer has ample room, and all-match has room for a number of every rule, and one over;
+    /// its answer is given back.
     pub fn all_calls(&mut self, case: &str, rules: &[u32], header: &[u32]) -> Agreed {
         self.rule_check(case, rules)?;
+        self.write_rules(case, rules)?;
         self.line_first(case, rules, header)?;
         self.line_all(case, rules, header, rules.len() / 10 + 1)
     }
@@ -96,8 +103,7 @@ impl Bench {
         let Policy { rules, nodes, pool } = policy;
         let slices = self.lend_policy(policy);
         let answer = oracle::tree_check(rules, nodes, pool);
-        let tree = Some((nodes.as_slice(), pool.as_slice()));
-        let inputs = Inputs { call: Call::TreeCheck, case, rules, tree, header: None, room: None };
+        let inputs = policy_inputs(Call::TreeCheck, case, policy);
         self.compare(inputs, &slices, answer)
     }
 
@@ -105,10 +111,12 @@ impl Bench {
         let Policy { rules, nodes, pool } = policy;
         let [lent_rules, lent_nodes, lent_pool] = self.lend_policy(policy);
         let lent_header = self.arena.lend("header", header);
-        let lent_out = self.arena.lend_room("out", room);
-        let answer = oracle::tree_all(rules, nodes, pool, header, self.arena.wanted(lent_out));
-        let tree = Some((nodes.as_slice(), pool.as_slice()));
-        let inputs = Inputs { call: Call::TreeAll, case, rules, tree, header: Some(header), room: Some(room) };
+        let mut out = unwritten_words(room);
+        let lent_out = self.arena.lend("out", &out);
+        let answer = oracle::tree_all(rules, nodes, pool, header, &mut out);
+        self.arena.want(lent_out, &out);
+        let named = policy_inputs(Call::TreeAll, case, policy);
+        let inputs = Inputs { header: Some(header), rooms: &[room], ..named };
         self.compare(inputs, &[lent_rules, lent_nodes, lent_pool, lent_header, lent_out], answer)
     }
 
@@ -117,8 +125,7 @@ impl Bench {
         let [lent_rules, lent_nodes, lent_pool] = self.lend_policy(policy);
         let lent_header = self.arena.lend("header", header);
         let answer = oracle::tree_first(rules, nodes, pool, header);
-        let tree = Some((nodes.as_slice(), pool.as_slice()));
-        let inputs = Inputs { call: Call::TreeFirst, case, rules, tree, header: Some(header), room: None };
+        let inputs = Inputs { header: Some(header), ..policy_inputs(Call::TreeFirst, case, policy) };
         self.compare(inputs, &[lent_rules, lent_nodes, lent_pool, lent_header], answer)
     }
 
@@ -149,7 +156,9 @@ impl Bench {
         let oracle = answer_words(&answer);
         let lent_answer = self.arena.lend_answer();
         self.arena.want_answer(lent_answer, oracle);
-        let library = match self.lender.call(self.arena.lent_words(), inputs.call, slices, lent_answer) {
+        let number = inputs.rule_count.unwrap_or(0);
+        let request = Request { call: inputs.call, slices, number, answer: lent_answer };
+        let library = match self.lender.call(self.arena.lent_bytes(), &request) {
             Ok(()) if self.arena.is_as_wanted() => {
                 self.calls += 1;
                 self.tally[answer.number as usize] += 1;
@@ -162,6 +171,11 @@ impl Bench {
         };
         Err(Mismatch { group: &self.group, inputs, library, oracle }.to_string())
     }
+}
+
+/// The call's inputs where they are a list and a tree.
+fn policy_inputs<'a>(call: Call, case: &'a str, policy: &'a Policy) -> Inputs<'a> {
+    Inputs { rules: Some(&policy.rules), tree: Some((&policy.nodes, &policy.pool)), ..Inputs::of(call, case) }
 }
 
 /// How many calls were completed, and how many were refused with each number.

@@ -12,8 +12,8 @@ use std::path::{Path, PathBuf};
 use std::process::{self, Child, Command, ExitStatus};
 use std::time::Duration;
 
-use crate::abi::{self, Call};
-use crate::arena::{Lent, ARENA_WORDS};
+use crate::abi::Request;
+use crate::arena::ARENA_BYTES;
 use crate::mapping::Mapping;
 
 /// How long a reply may take. A call takes far less than a second, under an emulator too.
@@ -56,10 +56,9 @@ pub fn start(command: &[OsString]) -> Result<(Lender, Mapping), String> {
 
 fn map_and_start(file: &File, path: &Path, command: &[OsString]) -> Result<(Lender, Mapping), String> {
     let mapping =
-        Mapping::of(file, ARENA_WORDS).map_err(|error| format!("{} cannot be mapped: {error}", path.display()))?;
+        Mapping::of(file, ARENA_BYTES).map_err(|error| format!("{} cannot be mapped: {error}", path.display()))?;
     let mut lender = Lender::spawn(command, path).map_err(|error| format!("{command:?} cannot be run: {error}"))?;
-    let size = ARENA_WORDS * size_of::<u32>();
-    lender.expect_reply(size as u64).map_err(|silence| format!("{command:?} is not ready: {silence}"))?;
+    lender.expect_reply(ARENA_BYTES as u64).map_err(|silence| format!("{command:?} is not ready: {silence}"))?;
     Ok((lender, mapping))
 }
 
@@ -79,12 +78,11 @@ impl Lender {
         Ok(Lender { child, stream })
     }
 
-    /// Has the lender make the call, and waits until it has. The lent words are borrowed alone for so long.
-    pub fn call(&mut self, _lent: &mut Mapping, call: Call, slices: &[Lent], answer: Lent) -> Result<(), Silence> {
-        let request = abi::request(call, slices, answer).map(u64::to_le_bytes);
-        match self.stream.write_all(request.as_flattened()) {
+    /// Has the lender make the call, and waits until it has. The lent bytes are borrowed alone for so long.
+    pub fn call(&mut self, _lent: &mut Mapping, request: &Request) -> Result<(), Silence> {
+        match self.stream.write_all(request.words().map(u64::to_le_bytes).as_flattened()) {
             Err(error) => Err(self.silence(error)),
-            Ok(()) => self.expect_reply(call.number()),
+            Ok(()) => self.expect_reply(request.call.number()),
         }
     }
 

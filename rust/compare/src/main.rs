@@ -21,6 +21,8 @@ mod lists;
 #[allow(unsafe_code)]
 mod mapping;
 mod mismatch;
+mod text_damages;
+mod texts;
 mod tree_damages;
 mod trees;
 

@@ -1,4 +1,4 @@
-//! Words that are shared with the lender: a file that both programs have mapped.
+//! Bytes that are shared with the lender: a file that both programs have mapped.
 //!
 //! All unsafe code of the comparison is in this module.
 
@@ -21,32 +21,31 @@ const MAP_SHARED: c_int = 1;
 const MAP_FAILED: usize = usize::MAX;
 
 pub struct Mapping {
-    start: *mut u32,
+    start: *mut u8,
     length: usize,
 }
 
 impl Mapping {
-    /// Makes the file this many words long, each of them 0, and maps it.
+    /// Makes the file this many bytes long, each of them 0, and maps it.
     pub fn of(file: &File, length: usize) -> io::Result<Mapping> {
-        let size = length * size_of::<u32>();
-        file.set_len(size as u64)?;
+        file.set_len(length as u64)?;
         // SAFETY: the system chooses where the mapping stands, so it replaces no memory of this program.
-        let start = unsafe { mmap(ptr::null_mut(), size, PROT_READ | PROT_WRITE, MAP_SHARED, file.as_raw_fd(), 0) };
+        let start = unsafe { mmap(ptr::null_mut(), length, PROT_READ | PROT_WRITE, MAP_SHARED, file.as_raw_fd(), 0) };
         if start.addr() == MAP_FAILED {
             return Err(io::Error::last_os_error());
         }
         Ok(Mapping { start: start.cast(), length })
     }
 
-    pub fn words(&self) -> &[u32] {
-        // SAFETY: `start` is the start of a page and `length` words from it are mapped until this is dropped. The
+    pub fn bytes(&self) -> &[u8] {
+        // SAFETY: `start` is the start of a page and `length` bytes from it are mapped until this is dropped. The
         // lender writes to them within `Lender::call` only, which borrows this mapping alone, so not while the
         // slice is in use.
         unsafe { slice::from_raw_parts(self.start, self.length) }
     }
 
-    pub fn words_mut(&mut self) -> &mut [u32] {
-        // SAFETY: as in `words`; the mapping is borrowed alone, so there is no other slice of it.
+    pub fn bytes_mut(&mut self) -> &mut [u8] {
+        // SAFETY: as in `bytes`; the mapping is borrowed alone, so there is no other slice of it.
         unsafe { slice::from_raw_parts_mut(self.start, self.length) }
     }
 }
@@ -54,6 +53,6 @@ impl Mapping {
 impl Drop for Mapping {
     fn drop(&mut self) {
         // SAFETY: this is the whole mapping that `of` made, and no slice of it outlives it.
-        unsafe { munmap(self.start.cast(), self.length * size_of::<u32>()) };
+        unsafe { munmap(self.start.cast(), self.length) };
     }
 }

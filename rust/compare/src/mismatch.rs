@@ -12,18 +12,28 @@ const SHOWN_RULES: usize = 6;
 const SHOWN_NODES: usize = 40;
 /// The most words of any other slice, and the most differences, that are written out.
 const SHOWN_WORDS: usize = 12;
+/// The most bytes of a text that are written out.
+const SHOWN_BYTES: usize = 2_000;
 
-/// A call and what it is given.
+/// A call and what it is given. What it does not take is None, or no room.
 pub struct Inputs<'a> {
     pub call: Call,
     pub case: &'a str,
-    pub rules: &'a [u32],
-    /// The node words and the pool; None where the call takes no tree.
+    pub rules: Option<&'a [u32]>,
+    pub rule_count: Option<u64>,
+    /// The node words and the pool.
     pub tree: Option<(&'a [u32], &'a [u32])>,
-    /// None where the call takes no header.
     pub header: Option<&'a [u32]>,
-    /// None where the call takes no output.
-    pub room: Option<usize>,
+    pub text: Option<&'a [u8]>,
+    /// The elements of each output.
+    pub rooms: &'a [usize],
+}
+
+impl<'a> Inputs<'a> {
+    /// The call with nothing that it is given.
+    pub fn of(call: Call, case: &'a str) -> Inputs<'a> {
+        Inputs { call, case, rules: None, rule_count: None, tree: None, header: None, text: None, rooms: &[] }
+    }
 }
 
 /// What the library did.
@@ -48,6 +58,9 @@ impl Display for Mismatch<'_> {
         writeln!(to, "  group    {}", self.group)?;
         writeln!(to, "  case     {}", self.inputs.case)?;
         self.show_rules(to)?;
+        if let Some(rule_count) = self.inputs.rule_count {
+            writeln!(to, "  rules    {rule_count} by number")?;
+        }
         if let Some((nodes, pool)) = self.inputs.tree {
             writeln!(to, "  nodes    {} words", nodes.len())?;
             for (number, node) in nodes.chunks(3).enumerate().take(SHOWN_NODES) {
@@ -59,8 +72,12 @@ impl Display for Mismatch<'_> {
             let shown = &header[..header.len().min(SHOWN_WORDS)];
             writeln!(to, "  header   {} words: {shown:?}", header.len())?;
         }
-        if let Some(room) = self.inputs.room {
-            writeln!(to, "  room     {room} numbers")?;
+        if let Some(text) = self.inputs.text {
+            let shown = text[..text.len().min(SHOWN_BYTES)].escape_ascii();
+            writeln!(to, "  text     {} bytes: \"{shown}\"", text.len())?;
+        }
+        if !self.inputs.rooms.is_empty() {
+            writeln!(to, "  room     {:?}", self.inputs.rooms)?;
         }
         match &self.library {
             Deed::Left { answer, .. } => writeln!(to, "  library  {}", AnswerWords(answer))?,
@@ -74,13 +91,14 @@ impl Display for Mismatch<'_> {
 impl Mismatch<'_> {
     /// Writes the first rules of the list, and those that either answer names by its place, its extra or a value.
     fn show_rules(&self, to: &mut Formatter) -> fmt::Result {
-        writeln!(to, "  rules    {} words", self.inputs.rules.len())?;
+        let Some(rules) = self.inputs.rules else { return Ok(()) };
+        writeln!(to, "  rules    {} words", rules.len())?;
         let names = |answer: &[u64], number: usize| [1, 2, 4].iter().any(|&word| answer[word] == number as u64);
         let named = |number| match &self.library {
             Deed::Left { answer, .. } => names(answer, number) || names(&self.oracle, number),
             Deed::Stayed(_) => names(&self.oracle, number),
         };
-        for (number, rule) in self.inputs.rules.chunks(10).enumerate() {
+        for (number, rule) in rules.chunks(10).enumerate() {
             if number < SHOWN_RULES || named(number) {
                 writeln!(to, "    rule {number}: {rule:?}")?;
             }
@@ -88,12 +106,12 @@ impl Mismatch<'_> {
         Ok(())
     }
 
-    /// Writes the first words of the lent memory that differ, where the library came back from the call.
+    /// Writes the first places of the lent memory that differ, where the library came back from the call.
     fn show_differences(&self, to: &mut Formatter) -> fmt::Result {
         let Deed::Left { differences, .. } = &self.library else { return Ok(()) };
-        writeln!(to, "  {} words of the lent memory differ", differences.len())?;
+        writeln!(to, "  {} places of the lent memory differ", differences.len())?;
         for Difference { at, found, wanted } in differences.iter().take(SHOWN_WORDS) {
-            writeln!(to, "    {at}: library {found:#010x}, oracle {wanted:#010x}")?;
+            writeln!(to, "    {at}: library {found:#x}, oracle {wanted:#x}")?;
         }
         Ok(())
     }

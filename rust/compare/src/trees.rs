@@ -8,7 +8,7 @@ use oracle::rules::judge_rules;
 
 use crate::draws::Draws;
 use crate::headers::{self, Header, LARGEST};
-use crate::lists::{List, Rule, WORKED_POLICY};
+use crate::lists::{List, Rule, EVERYTHING, WORKED_POLICY};
 
 /// The words of a list and of a tree, as the calls take them.
 #[derive(Clone)]
@@ -22,6 +22,11 @@ impl Policy {
     pub fn of(rules: &[Rule], root: &Part) -> Policy {
         let words = root.words();
         Policy { rules: rules.concat(), nodes: words.nodes, pool: words.pool }
+    }
+
+    /// How many rules there are.
+    pub fn rule_count(&self) -> u64 {
+        (self.rules.len() / 10) as u64
     }
 
     /// How many nodes there are.
@@ -75,6 +80,23 @@ pub fn grown(list: &List, cuts: u64, draws: &mut Draws) -> Planted {
     let cuts = cuts.min(most_leaves - 1).min(MOST_NODES as u64 / 2);
     let root = builder::grow(&rules, cuts, &mut |bound| draws.below(bound as usize) as u64);
     Planted::of(&list.rules, root)
+}
+
+/// A tree of so many nodes that is spelt, and hardly ever well formed, for so many rules that match everything.
+pub fn spelt(rule_count: usize, node_count: usize, draws: &mut Draws) -> Policy {
+    let mut policy = Policy { rules: EVERYTHING.repeat(rule_count), nodes: Vec::new(), pool: Vec::new() };
+    for _ in 0..node_count {
+        if draws.once_in(2) {
+            let value = draws.word() >> draws.below(32);
+            policy.nodes.extend([draws.below(5) as u32, value, draws.below(node_count) as u32]);
+        } else {
+            let start = policy.pool.len();
+            let count = draws.below(rule_count + 1).min(MOST_ENTRIES - start);
+            policy.nodes.extend([5, start as u32, count as u32]);
+            policy.pool.extend((0..count).map(|_| draws.below(rule_count) as u32));
+        }
+    }
+    policy
 }
 
 /// A part of the tree, by the number of its node.

@@ -26,7 +26,7 @@ impl Answer {
 /// What is wrong, as in the scope's table of refusal numbers.
 #[derive(Clone, Copy, Debug, PartialEq, Eq)]
 pub enum Refusal {
-    /// The rule words are not a multiple of ten, or over 5,120.
+    /// The rule words are not a multiple of ten, or over 5,120; or a tree writer is told of more than 512 rules.
     RuleWords,
     /// A rule is not good; this is the lowest such rule.
     RuleNotGood { rule: usize },
@@ -34,8 +34,10 @@ pub enum Refusal {
     HeaderLength,
     /// A port or the protocol is too large; this is the lowest such field.
     HeaderField { field: usize },
-    /// The lent output is too short for the numbers needed.
+    /// The lent output is too short for the numbers, words or bytes needed.
     OutputShort { needed: usize },
+    /// The lent output is too short for the words of the pool.
+    PoolShort { needed: usize },
     /// The node words are none, not a multiple of three, or over 6,141; or the pool is over 4,096.
     TreeWords,
     /// A node is wrong, missing or left over.
@@ -44,6 +46,10 @@ pub enum Refusal {
     LeafWrong { node: u64 },
     /// A leaf lacks a rule whose box meets the leaf's box; these are the lowest such leaf, and its lowest such rule.
     LeafLacksRule { node: u64, rule: u64 },
+    /// A text line is wrong; lines count from 1.
+    LineWrong { line: usize },
+    /// The text stops before its end line, after so many whole lines.
+    TextStops { lines: usize },
 }
 
 impl Refusal {
@@ -55,10 +61,13 @@ impl Refusal {
             Refusal::HeaderLength => (3, 5, 0),
             Refusal::HeaderField { field } => (3, field as u64, 0),
             Refusal::OutputShort { needed } => (4, needed as u64, 0),
+            Refusal::PoolShort { needed } => (4, needed as u64, 1),
             Refusal::TreeWords => (5, 0, 0),
             Refusal::NodeWrong { node } => (6, node, 0),
             Refusal::LeafWrong { node } => (7, node, 0),
             Refusal::LeafLacksRule { node, rule } => (8, node, rule),
+            Refusal::LineWrong { line } => (9, line as u64, 0),
+            Refusal::TextStops { lines } => (10, lines as u64, 0),
         }
     }
 }

@@ -9,7 +9,9 @@
 //! - [`line_first`]: the lowest number of them;
 //! - [`tree_all`]: the numbers in a leaf that match a header, by a walk through a tree;
 //! - [`tree_first`]: the first number of them;
-//! - [`tree_check`]: is the tree well formed, and does each leaf list every rule that can match there.
+//! - [`tree_check`]: is the tree well formed, and does each leaf list every rule that can match there;
+//! - [`rules_write`] and [`rules_read`]: a list as a text file, and back;
+//! - [`tree_write`] and [`tree_read`]: a tree as a text file, and back.
 //!
 //! Besides, [`builder`] makes trees that are right for a list, and [`corners`] judges small trees a second time, by
 //! searching for every header that could get a wrong list.
@@ -25,13 +27,18 @@ pub mod line;
 pub mod matching;
 pub mod nodes;
 pub mod parts;
+pub mod rule_file;
 pub mod rules;
 pub mod spelt;
+pub mod text;
 pub mod tree_check;
+pub mod tree_file;
 pub mod tree_search;
 
 pub use answer::{Answer, Refusal};
 pub use line::{line_all, line_first};
+pub use rule_file::{rules_read, rules_write};
 pub use rules::rule_check;
 pub use tree_check::tree_check;
+pub use tree_file::{tree_read, tree_write};
 pub use tree_search::{tree_all, tree_first};

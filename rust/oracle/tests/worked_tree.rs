@@ -3,10 +3,7 @@
 mod worked;
 
 use oracle::{tree_all, tree_check, tree_first, Answer};
-use worked::{header, policy, ADDRESS_10_1_2_3, AS_FOUND};
-
-const NODES: [[u32; 3]; 5] = [[0, 167_772_159, 2], [5, 0, 1], [0, 184_549_375, 4], [5, 1, 3], [5, 4, 1]];
-const POOL: [u32; 5] = [2, 0, 1, 2, 2];
+use worked::{header, policy, ADDRESS_10_1_2_3, AS_FOUND, NODES, POOL};
 
 /// Expects this list after so many nodes and entries, with exact room and with more, and its first number after
 /// `first_after` entries.

@@ -71,22 +71,23 @@ fn turning_rules(bench: &mut Bench) -> Run {
         let manner = draws.pick(&MANNERS);
         let mut words = lists::good_list(&mut draws, size, manner).words();
         let rarity = draws.pick(&[1, 2, 10, 30]);
-        for word in &mut words {
-            if draws.once_in(rarity) {
-                *word = draws.pick(&TURNING_WORDS);
-            }
-        }
+        turn_words(&mut words, rarity, &mut draws);
         let mut header = headers::anywhere(&mut draws);
-        for word in &mut header {
-            if draws.once_in(3) {
-                *word = draws.pick(&TURNING_WORDS);
-            }
-        }
+        turn_words(&mut header, 3, &mut draws);
         let case = format!("seed {seed}, words near the limits");
         bench.all_calls(&case, &words, &header)?;
         bench.line_all(&case, &words, &header, draws.below(size + 1))?;
     }
     Ok(())
+}
+
+/// Puts a word from the limits in place of one in so many.
+pub fn turn_words(words: &mut [u32], rarity: usize, draws: &mut Draws) {
+    for word in words {
+        if draws.once_in(rarity) {
+            *word = draws.pick(&TURNING_WORDS);
+        }
+    }
 }
 
 /// Words and lengths without any rule; now and then the length is right.

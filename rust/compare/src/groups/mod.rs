@@ -3,9 +3,15 @@
 mod correctness;
 mod damage;
 mod drawn_damage;
+mod file_correctness;
+mod file_limits;
+mod file_rooms;
 mod limits;
 mod order;
 mod rooms;
+mod text_cases;
+mod text_damage;
+mod text_drawn;
 mod tree_agreement;
 mod tree_cases;
 mod tree_chains;
@@ -18,7 +24,7 @@ mod tree_words;
 
 use crate::bench::{Bench, Run};
 
-/// Compares every group in turn: lists, then trees.
+/// Compares every group in turn: lists, then trees, then files.
 pub fn run(bench: &mut Bench) -> Run {
     correctness::run(bench)?;
     limits::run(bench)?;
@@ -34,5 +40,11 @@ pub fn run(bench: &mut Bench) -> Run {
     tree_cases::run(bench)?;
     tree_order::run(bench)?;
     tree_drawn::run(bench)?;
-    tree_words::run(bench)
+    tree_words::run(bench)?;
+    file_correctness::run(bench)?;
+    file_limits::run(bench)?;
+    file_rooms::run(bench)?;
+    text_damage::run(bench)?;
+    text_cases::run(bench)?;
+    text_drawn::run(bench)
 }

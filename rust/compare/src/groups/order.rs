@@ -38,16 +38,19 @@ fn every_set(bench: &mut Bench) -> Run {
     Ok(())
 }
 
-/// Rule check looks for faults 1 and 2 only, first-match for 1 to 3, and all-match for all four.
+/// Rule check looks for faults 1 and 2 only, first-match for 1 to 3, all-match for all four, and the writer for all but
+/// 3, which it cannot have.
 fn compare(bench: &mut Bench, seed: u64, size: usize, faults: Faults, form: usize) -> Run {
     let Input { words, header, room } = input(seed, size, faults, form);
     let case = format!("seed {seed}, list of {size}, {faults:?}, form {form}");
     let check = bench.rule_check(&case, &words)?;
     let first = bench.line_first(&case, &words, &header)?;
     let all = bench.line_all(&case, &words, &header, room)?;
-    assert_eq!(check.number, faults.lowest_of(2), "the oracle: {case}");
-    assert_eq!(first.number, faults.lowest_of(3), "the oracle: {case}");
-    assert_eq!(all.number, faults.lowest_of(4), "the oracle: {case}");
+    let writer = bench.rules_write(&case, &words, if faults.has(4) { 12 * size } else { 100 * size })?;
+    assert_eq!(check.number, faults.lowest_of(&[1, 2]), "the oracle: {case}");
+    assert_eq!(first.number, faults.lowest_of(&[1, 2, 3]), "the oracle: {case}");
+    assert_eq!(all.number, faults.lowest_of(&[1, 2, 3, 4]), "the oracle: {case}");
+    assert_eq!(writer.number, faults.lowest_of(&[1, 2, 4]), "the oracle: {case}");
     Ok(())
 }
 
@@ -56,9 +59,9 @@ impl Faults {
         self.0[number - 1]
     }
 
-    /// The lowest number up to `most` that there is a fault for, or 0.
-    fn lowest_of(&self, most: usize) -> u64 {
-        (1..=most).find(|&number| self.has(number)).unwrap_or(0) as u64
+    /// The first of these numbers that there is a fault for, or 0.
+    fn lowest_of(&self, numbers: &[usize]) -> u64 {
+        numbers.iter().copied().find(|&number| self.has(number)).unwrap_or(0) as u64
     }
 }
 

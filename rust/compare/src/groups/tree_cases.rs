@@ -13,6 +13,7 @@ fn chosen_faults(bench: &mut Bench) -> Run {
     let rules = [EVERYTHING, EVERYTHING].concat();
     for (case, nodes, pool, number, place, extra) in chosen_cases() {
         let policy = Policy { rules: rules.clone(), nodes: nodes.concat(), pool: pool.to_vec() };
+        bench.write_tree(case, &policy)?;
         let answer = bench.tree_check(case, &policy)?;
         assert_eq!((answer.number, answer.place, answer.extra), (number, place, extra), "the oracle: {case}");
         for protocol in [0, 9, 10, 99, 100, 255] {

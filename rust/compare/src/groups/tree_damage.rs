@@ -1,5 +1,5 @@
-//! Damage to trees: each kind, at many places of good trees. Each damaged tree is checked, and searched with headers
-//! that come to the damaged node.
+//! Damage to trees: each kind, at many places of good trees. Each damaged tree is checked, written, and searched with
+//! headers that come to the damaged node.
 
 use crate::bench::{Bench, Run};
 use crate::draws::Draws;
@@ -69,6 +69,7 @@ fn each_tree(
         for tree in damaged {
             let case = format!("seed {seed}, {}", tree.kind);
             bench.tree_check(&case, &tree.policy)?;
+            bench.write_tree(&case, &tree.policy)?;
             let header = trees::inside(&tree.sides, &mut draws);
             let answer = bench.tree_searches(&case, &tree.policy, &header)?;
             if answer.a > 0 {

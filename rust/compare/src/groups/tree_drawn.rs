@@ -34,6 +34,7 @@ fn flipped_trees(bench: &mut Bench) -> Run {
         }
         let case = format!("seed {seed}, flipped bits");
         bench.tree_check(&case, &policy)?;
+        bench.write_tree(&case, &policy)?;
         let header = trees::header_for(&planted, &mut draws);
         bench.tree_searches(&case, &policy, &header)?;
         bench.tree_all(&case, &policy, &header, draws.below(4))?;
@@ -56,6 +57,7 @@ fn small_words(bench: &mut Bench) -> Run {
         let header = small_header(&mut draws);
         let case = format!("seed {seed}, small words");
         bench.tree_check(&case, &policy)?;
+        bench.write_tree(&case, &policy)?;
         bench.tree_first(&case, &policy, &header)?;
         bench.tree_all(&case, &policy, &header, draws.below(5))?;
     }
@@ -134,10 +136,12 @@ fn drawn_words(bench: &mut Bench) -> Run {
         let header = small_header(&mut draws);
         let case = format!("seed {seed}, drawn words");
         bench.tree_check(&case, &policy)?;
+        bench.write_tree(&case, &policy)?;
         bench.tree_searches(&case, &policy, &header)?;
         let good_rules = Policy { rules: EVERYTHING.repeat(draws.below(5)), ..policy };
         let case = format!("seed {seed}, drawn words of a tree, good rules");
         bench.tree_check(&case, &good_rules)?;
+        bench.write_tree(&case, &good_rules)?;
         bench.tree_searches(&case, &good_rules, &header)?;
     }
     Ok(())

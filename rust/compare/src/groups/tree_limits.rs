@@ -42,10 +42,17 @@ fn strip_tree(low: u32, leaves: u32) -> Part {
     leaf(&entries)
 }
 
-fn largest_sizes(bench: &mut Bench) -> Run {
+/// 512 rules, 2,047 nodes and 4,096 pool words.
+pub fn largest_tree() -> Planted {
     let planted = Planted::of(&strips(), strip_tree(0, 1_024));
+    let Policy { rules, nodes, pool } = &planted.policy;
+    assert_eq!((rules.len(), nodes.len(), pool.len()), (5_120, 6_141, 4_096));
+    planted
+}
+
+fn largest_sizes(bench: &mut Bench) -> Run {
+    let planted = largest_tree();
     let largest = &planted.policy;
-    assert_eq!((largest.rules.len(), largest.nodes.len(), largest.pool.len()), (5_120, 6_141, 4_096));
     let answer = bench.tree_check("the largest sizes", largest)?;
     assert_eq!(answer, Answer::completed(10, 4, 0));
     let mut draws = Draws::seeded(540_000);
@@ -73,6 +80,7 @@ fn one_more(bench: &mut Bench, largest: &Policy) -> Run {
                 policy.pool.push(0);
             }
             let case = format!("one more of the set {set}, whole: {whole}");
+            bench.write_tree(&case, &policy)?;
             let answer = bench.tree_check(&case, &policy)?;
             let wanted = if set & 1 > 0 { 1 } else { 5 };
             assert!(set == 0 || answer.number == wanted, "the oracle: {case}");
@@ -139,6 +147,7 @@ fn check_and_search(bench: &mut Bench, case: &str, policy: &Policy) -> Result<An
         bench.tree_first(case, policy, &header)?;
         bench.tree_all(case, policy, &header, 5)?;
     }
+    bench.write_tree(case, policy)?;
     bench.tree_check(case, policy)
 }
 

@@ -14,6 +14,7 @@ const PURPOSE: &str = "damage";
 pub fn run(bench: &mut Bench) -> Run {
     bench.group(PURPOSE, "tree check: every set of faults at once", every_set)?;
     bench.group(PURPOSE, "tree search: every set of faults at once, in the order 3, 6, 7, 4", search_sets)?;
+    bench.group(PURPOSE, "tree writer: every set of faults at once, in the order 1, 5, spelt, 4", writer_sets)?;
     bench.group(PURPOSE, "trees with two to four damages", several_damages)
 }
 
@@ -35,7 +36,7 @@ fn every_set(bench: &mut Bench) -> Run {
                 }
             }
             if has(3) {
-                policy.nodes[[0, 4, 13][form]] = [6, 1, 3][form];
+                break_spelling(&mut policy, form);
             }
             if has(2) {
                 break_tree_words(&mut policy, form);
@@ -60,6 +61,11 @@ fn every_set(bench: &mut Bench) -> Run {
         }
     }
     Ok(())
+}
+
+/// Node 0's first word, node 1's start, or node 4's start.
+fn break_spelling(policy: &mut Policy, form: usize) {
+    policy.nodes[[0, 4, 13][form]] = [6, 1, 3][form];
 }
 
 /// One word too few, too many nodes, or too long a pool.
@@ -95,6 +101,35 @@ fn search_sets(bench: &mut Bench) -> Run {
             let wanted = (0..4).find(|&fault| has(fault)).map_or(0, |fault| [3, 6, 7, 4][fault as usize]);
             assert_eq!(all.number, wanted, "the oracle: {case}");
             assert_eq!(first.number, if wanted == 4 { 0 } else { wanted }, "the oracle: {case}");
+        }
+    }
+    Ok(())
+}
+
+/// A number of rules that is too large, words that are no tree's, not spelt, and too short a room, in every set.
+fn writer_sets(bench: &mut Bench) -> Run {
+    for set in 0..16_u32 {
+        let has = |fault: u32| (set >> fault) & 1 == 1;
+        for form in 0..3 {
+            let mut policy = trees::worked().policy;
+            if has(2) {
+                break_spelling(&mut policy, form);
+            }
+            if has(1) {
+                break_tree_words(&mut policy, form);
+            }
+            let rule_count = if has(0) { [513, 1 << 32, u64::MAX][form] } else { 3 };
+            let room = if has(3) { [0, 1, 60][form] } else { 200 };
+            let case = format!("worked policy, set {set} of faults, form {form}");
+            let answer = bench.tree_write(&case, rule_count, &policy, room)?;
+            let wanted = match set.trailing_zeros() {
+                0 => 1,
+                1 => 5,
+                2 => [6, 7, 7][form],
+                3 => 4,
+                _ => 0,
+            };
+            assert_eq!(answer.number, wanted, "the oracle: {case}");
         }
     }
     Ok(())
@@ -143,6 +178,7 @@ fn several_damages(bench: &mut Bench) -> Run {
         }
         let case = format!("seed {seed}, {kind}");
         bench.tree_check(&case, &policy)?;
+        bench.write_tree(&case, &policy)?;
         bench.tree_searches(&case, &policy, &trees::inside(&sides, &mut draws))?;
     }
     Ok(())

@@ -1,0 +1,100 @@
+//! The file calls: a list and a tree, written as texts and read from them.
+
+use super::{Agreed, Bench};
+use crate::abi::Call;
+use crate::arena::{unwritten_text, unwritten_words};
+use crate::mismatch::Inputs;
+use crate::texts::{File, Text};
+use crate::trees::Policy;
+
+/// The bytes that an ample room has beyond those that are needed.
+const SPARE_BYTES: usize = 3;
+/// The words that an ample room has beyond those that are needed, for rules or nodes, and for the pool.
+const SPARE_WORDS: [usize; 2] = [4, 2];
+/// The bytes lent to a writer that refuses for another reason.
+const UNUSED_BYTES: usize = 64;
+
+impl Bench {
+    pub fn rules_write(&mut self, case: &str, rules: &[u32], room: usize) -> Agreed {
+        self.arena.take_back();
+        let lent_rules = self.arena.lend("rules", rules);
+        let mut text = unwritten_text(room);
+        let lent_text = self.arena.lend_text(&text);
+        let answer = oracle::rules_write(rules, &mut text);
+        self.arena.want_text(lent_text, &text);
+        let inputs = Inputs { rules: Some(rules), rooms: &[room], ..Inputs::of(Call::RulesWrite, case) };
+        self.compare(inputs, &[lent_rules, lent_text], answer)
+    }
+
+    pub fn rules_read(&mut self, case: &str, text: &[u8], room: usize) -> Agreed {
+        self.arena.take_back();
+        let lent_text = self.arena.lend_text(text);
+        let mut rules = unwritten_words(room);
+        let lent_rules = self.arena.lend("rules", &rules);
+        let answer = oracle::rules_read(text, &mut rules);
+        self.arena.want(lent_rules, &rules);
+        let inputs = Inputs { text: Some(text), rooms: &[room], ..Inputs::of(Call::RulesRead, case) };
+        self.compare(inputs, &[lent_text, lent_rules], answer)
+    }
+
+    /// The policy's rules are of no account: their number is told.
+    pub fn tree_write(&mut self, case: &str, rule_count: u64, policy: &Policy, room: usize) -> Agreed {
+        let Policy { nodes, pool, .. } = policy;
+        self.arena.take_back();
+        let lent_nodes = self.arena.lend("nodes", nodes);
+        let lent_pool = self.arena.lend("pool", pool);
+        let mut text = unwritten_text(room);
+        let lent_text = self.arena.lend_text(&text);
+        let answer = oracle::tree_write(rule_count, nodes, pool, &mut text);
+        self.arena.want_text(lent_text, &text);
+        let named = Inputs::of(Call::TreeWrite, case);
+        let inputs = Inputs { rule_count: Some(rule_count), tree: Some((nodes, pool)), rooms: &[room], ..named };
+        self.compare(inputs, &[lent_nodes, lent_pool, lent_text], answer)
+    }
+
+    /// The rooms are those of the nodes and of the pool.
+    pub fn tree_read(&mut self, case: &str, text: &[u8], rooms: [usize; 2]) -> Agreed {
+        self.arena.take_back();
+        let lent_text = self.arena.lend_text(text);
+        let [mut nodes, mut pool] = rooms.map(unwritten_words);
+        let lent_nodes = self.arena.lend("nodes", &nodes);
+        let lent_pool = self.arena.lend("pool", &pool);
+        let answer = oracle::tree_read(text, &mut nodes, &mut pool);
+        self.arena.want(lent_nodes, &nodes);
+        self.arena.want(lent_pool, &pool);
+        let inputs = Inputs { text: Some(text), rooms: &rooms, ..Inputs::of(Call::TreeRead, case) };
+        self.compare(inputs, &[lent_text, lent_nodes, lent_pool], answer)
+    }
+
+    /// Writes the list with ample room.
+    pub fn write_rules(&mut self, case: &str, rules: &[u32]) -> Agreed {
+        let needed = oracle::rule_file::rules_text(rules).map_or(UNUSED_BYTES, |text| text.len());
+        self.rules_write(case, rules, needed + SPARE_BYTES)
+    }
+
+    /// Writes the tree, for the number of rules that the policy has, with ample room.
+    pub fn write_tree(&mut self, case: &str, policy: &Policy) -> Agreed {
+        let rule_count = policy.rule_count();
+        let written = oracle::tree_file::tree_text(rule_count, &policy.nodes, &policy.pool);
+        let needed = written.map_or(UNUSED_BYTES, |text| text.len());
+        self.tree_write(case, rule_count, policy, needed + SPARE_BYTES)
+    }
+
+    /// Reads the text with these rooms, of which a list takes the first.
+    pub fn read(&mut self, case: &str, text: &Text, rooms: [usize; 2]) -> Agreed {
+        match text.file {
+            File::Rules => self.rules_read(case, &text.bytes, rooms[0]),
+            File::Tree => self.tree_read(case, &text.bytes, rooms),
+        }
+    }
+
+    /// Reads the text with no room, with none for the pool alone, and with ample room; the last answer is given back.
+    pub fn read_in_rooms(&mut self, case: &str, text: &Text) -> Agreed {
+        let [first, second] = text.needed;
+        self.read(case, text, [0, 0])?;
+        if text.file == File::Tree {
+            self.read(case, text, [first, 0])?;
+        }
+        self.read(case, text, [first + SPARE_WORDS[0], second + SPARE_WORDS[1]])
+    }
+}

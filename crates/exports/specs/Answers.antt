@@ -3,7 +3,7 @@
 --   .. Answered   the promise of each call: the answer's words, and the lent output's, are as defined
 use Prim.Native.Nat.{ℕ}
 use mathlib.Core.Path.{_≡_}
-use mathlib.Core.List.{List, [], _∷_, _++_}
+use mathlib.Core.List.{List, _∷_, _++_}
 use lib.ListN.{length, take, replicate}
 use Rattle.refusals.specs.Paper.{Paper, refusal, success}
 use Rattle.rules.specs.RuleCheck.{ruleCheck}

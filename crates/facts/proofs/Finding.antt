@@ -1,10 +1,9 @@
 -- A loop that looks for a number in a list: its invariant, for any number and any list.
 --   all    the list; rest what the loop has not looked at yet; y the number
 use Prim.Native.Nat.{ℕ}
-use mathlib.Core.Bool.{Bool, true, false}
+use mathlib.Core.Bool.{true, false}
 use mathlib.Core.Path.{_≡_, refl, ap, _∙_}
 use mathlib.Core.List.{List, [], _∷_}
-use lib.Dec.{eqb}
 use borrow.Author.Tests.{eq-eqb, ne-eqb}
 use Rattle.facts.specs.Lists.{has}
 

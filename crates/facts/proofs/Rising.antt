@@ -2,15 +2,15 @@
 -- two with the same members are one.
 use Prim.Native.Nat.{ℕ, zero, suc, _+_, _≤_, _<_}
 use native.Mathlib.Omega.{arith}
-use mathlib.Core.Bool.{Bool, true, false, cond, false≢true}
-use mathlib.Core.Path.{_≡_, refl, sym}
+use mathlib.Core.Bool.{Bool, true, false, false≢true}
+use mathlib.Core.Path.{_≡_, refl}
 use mathlib.Core.Logic.{_⊎_, inl, inr}
 use mathlib.Core.List.{List, [], _∷_}
 use lib.Dec.{leb}
 use borrow.Author.Tests.{leb-true, le-leb}
 use Rattle.facts.specs.Lists.{run, keep, has, rises}
 use Rattle.facts.proofs.Bools.{both, join}
-use Rattle.facts.proofs.Cases.{Order, below, same, above, order}
+use Rattle.facts.proofs.Cases.{below, same}
 use Rattle.facts.proofs.Members.{has-cons, has-head, has-tail, kept-iff, run-iff}
 
 -- a rising list's head is at least its bound, and its tail rises past the head

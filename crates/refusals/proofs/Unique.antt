@@ -1,7 +1,7 @@
 -- The paper tells refusals apart: number, place and extra give the variant and what it holds.
 use Prim.Native.Nat.{ℕ}
 use native.Mathlib.Omega.{arith}
-use mathlib.Core.Path.{_≡_, refl, sym, ap, _∙_}
+use mathlib.Core.Path.{_≡_, refl, sym, _∙_}
 use mathlib.Core.List.{List, [], _∷_}
 use lib.ListN.{getD}
 use Rattle.refusals.specs.declared.Refusal.{Refusal}
@@ -9,7 +9,7 @@ use Rattle.refusals.specs.declared.Refusal.the-variants.{RuleWordsWrong,
 use Rattle.refusals.specs.declared.Refusal.the-variants.{TreeWordsWrong, NodeWrong, LeafWrong, LeafLacksRule}
 use Rattle.refusals.specs.declared.Refusal.the-variants.{LineWrong, TextStops, FileNotRead}
 use Rattle.refusals.specs.Table.{numberOf, placeOf, extraOf}
-use Rattle.refusals.specs.Paper.{Paper, refusal, success, onPaper}
+use Rattle.refusals.specs.Paper.{refusal, success, onPaper}
 
 -- the refusal with number n, place p and extra e: a line for each number from 0 on
 named : ℕ → ℕ → ℕ → Refusal

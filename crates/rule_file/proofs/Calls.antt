@@ -1,8 +1,8 @@
 -- The calls after one another: what the writer wrote reads back as the same words, what the reader read is written back
 -- byte for byte, and a text that reads well is refused where it is cut.
-use Prim.Native.Nat.{ℕ, _*_, _/_, _≤_, _^_}
+use Prim.Native.Nat.{ℕ, _*_, _≤_, _^_}
 use native.Mathlib.Omega.{arith}
-use mathlib.Core.Path.{_≡_, refl, sym, ap, _∙_, subst}
+use mathlib.Core.Path.{_≡_, refl, sym, ap, _∙_}
 use mathlib.Core.List.{List, [], _∷_, _++_}
 use lib.ListN.{length, take, drop}
 use Rattle.facts.specs.Lists.{written}
@@ -24,7 +24,7 @@ use Rattle.text.specs.Text.{Reading, good, refused, split, linesOf}
 use Rattle.rule_file.specs.declared.read.Read.the-variants as read
 use Rattle.rule_file.specs.declared.write.Written.the-variants as write
 use Rattle.rule_file.specs.RuleText.{rulesIn, rulesText}
-use Rattle.rule_file.specs.ReadRules.{wordsIn, readVerdict, readRules, readRulesWords, RulesRead}
+use Rattle.rule_file.specs.ReadRules.{readRules, readRulesWords, RulesRead}
 use Rattle.rule_file.specs.WriteRules.{writeVerdict, writeRules, writeRulesBytes, RulesWritten}
 use Rattle.rule_file.proofs.Back.{read-of-written}
 use Rattle.rule_file.proofs.Exact.{written-of-read}

@@ -1,22 +1,16 @@
--- Lent words: nothing kept in front of them, all of them below a limit, and words of 0 that are filled.
-use Prim.Native.Nat.{ℕ, suc, _+_, _<_}
+-- Lent words: nothing kept in front of them, and words of 0 that are filled.
+use Prim.Native.Nat.{ℕ, _+_}
 use native.Mathlib.Omega.{arith}
-use mathlib.Core.List.{List, [], _∷_, _++_, append-nil}
+use mathlib.Core.List.{List, _++_, append-nil}
 use mathlib.Core.Path.{_≡_, ap, _∙_}
-use lib.ListN.{length, getD, replicate, length-replicate}
+use lib.ListN.{length, replicate, length-replicate}
 use lib.Seq.{sets, sets-eq}
 use Rattle.facts.proofs.Steps.{drop-end}
 use Rattle.facts.proofs.Setting.{nil-of}
-use Rattle.text.specs.Line.{AllBelow}
 
 -- nothing in front of a list leaves it as it is
 pub none-before : (kept l : List ℕ) → length kept ≡ 0 → kept ++ l ≡ l
 none-before kept l e = ap (λ (k : List ℕ). k ++ l) (nil-of kept e)
-
--- a list is below a limit where what stands at each of its places is
-pub below-of : (lim : ℕ) (ws : List ℕ) → ((k : ℕ) → getD ws k 0 < lim) → AllBelow lim ws
-below-of lim [] h = tt
-below-of lim (w ∷ ws) h = (h 0, below-of lim ws (λ k. h (suc k)))
 
 -- where words of 0 are set to as many others, these are all
 pub filled-all : (n : ℕ) (vs : List ℕ) → length vs ≡ n → sets (replicate n 0) 0 vs ≡ vs

@@ -6,10 +6,10 @@ use mathlib.Core.Path.{_≡_, refl, ap}
 use lib.ListN.{length, drop, length-append}
 use Rattle.refusals.specs.declared.Verdict.the-variants.{Fine}
 use Rattle.text.specs.Words.{rulesWord, ruleWord, endWord, oneTab, ruleMarks}
-use Rattle.text.specs.Line.{printFields, printLine, AllBelow}
+use Rattle.text.specs.Line.{printLine, AllBelow}
 use Rattle.text.specs.Text.{unlines}
-use Rattle.text.proofs.Numbers.{digits-length}
 use Rattle.text.proofs.Below.{below-drop, below-take}
+use Rattle.text.proofs.Sizes.{numberMost, line-size}
 use Rattle.text.proofs.Texts.{unlines-more}
 use Rattle.rules.specs.Words.{ruleWords, mostRules, ruleCount}
 use Rattle.rules.specs.Good.{listVerdict}
@@ -19,21 +19,15 @@ use Rattle.rule_file.specs.RuleText.{headLine, ruleLine, endLine, ended,
 use Rattle.rule_file.proofs.Records.{values-below}
 use Rattle.rule_file.proofs.Writing.{text-parts}
 
-fields-length : (ms vs : List ℕ) → AllBelow (2 ^ 32) vs → length (printFields ms vs) ≤ length ms * 2 ^ 33
-unfolding printFields
-fields-length [] vs b = omega arith
-fields-length (m ∷ ms) [] b = omega arith
-fields-length (m ∷ ms) (v ∷ vs) b =
-    simp length-append (omega (arith, digits-length v, b .0, fields-length ms vs (b .1)))
-
+-- a line with its newline takes no more than its word, so many bytes for each number, and one
 line-length :
-    (w ms vs : List ℕ) → AllBelow (2 ^ 32) vs → length (ended (printLine w ms vs)) ≤ length w + length ms * 2 ^ 33 + 1
-unfolding printLine
-line-length w ms vs b = simp length-append (omega (arith, fields-length ms vs b))
+    (w ms vs : List ℕ) → AllBelow (2 ^ 32) vs →
+    length (ended (printLine w ms vs)) ≤ length w + length vs * numberMost + 1
+line-length w ms vs b = simp length-append (omega (arith, line-size w ms vs b))
 
 rules-length :
     (ws : List ℕ) (i : ℕ) → i ≤ mostRules → AllBelow (2 ^ 32) ws → length (unlines (ruleLines ws i)) ≤ i * 2 ^ 38
-unfolding ruleLines unlines
+unfolding ruleLines ruleValues unlines
 rules-length ws zero h b = omega arith
 rules-length ws (suc i) h b =
     let r : List ℕ = ruleAt ws i in

@@ -10,7 +10,6 @@ pub mod Begun
 pub mod Exact
 pub mod Cut
 pub mod Lengths
-pub mod Steps
 pub mod Reader
 pub mod Passes
 pub mod ReadAnswers

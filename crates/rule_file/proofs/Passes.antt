@@ -10,22 +10,23 @@ use Rattle.facts.proofs.Setting.{sets-append}
 use Rattle.refusals.specs.declared.Refusal.{Refusal}
 use Rattle.text.specs.declared.cursor.Cursor.{Cursor}
 use Rattle.text.specs.Text.{refused}
+use Rattle.text.specs.Onward.{Stands}
 use Rattle.rules.specs.Words.{ruleWords, mostRules}
 use Rattle.rule_file.specs.declared.read.Read.{Read}
 use Rattle.rule_file.specs.declared.read.Read.the-variants.{Refused, Rules}
 use Rattle.rule_file.specs.RuleText.{rules, rulesFrom}
-use Rattle.rule_file.specs.ReadSteps.{Standing, restFrom, Ruled, EndIs, PassIs}
+use Rattle.rule_file.specs.ReadSteps.{restFrom, Ruled, EndIs, PassIs}
 
 pub record Reached (s old : List ℕ) (n : ℕ) (first : Cursor) (i : ℕ) (c : Cursor) (new : List ℕ) : Type 0 where
   pub words : List ℕ
   pub left : restFrom n s first ≡ rulesFrom (rules n i words) s c
   pub size : length words ≡ i * ruleWords
   pub put : new ≡ sets old 0 words
-  pub stands : Standing s c
+  pub stands : Stands s c
   pub most : i ≤ n
 
 -- before the first rule nothing is read, and all is left
-pub reached-first : {s old : List ℕ} {n : ℕ} {c : Cursor} → Standing s c → Reached s old n c 0 c old
+pub reached-first : {s old : List ℕ} {n : ℕ} {c : Cursor} → Stands s c → Reached s old n c 0 c old
 reached-first h = record { words = []; left = refl; size = refl; put = refl; stands = h; most = omega arith }
 
 module _ {s old new : List ℕ} {n i : ℕ} {first c : Cursor} (g : Reached s old n first i c new) where

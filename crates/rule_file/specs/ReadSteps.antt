@@ -1,5 +1,4 @@
 -- What the steps of the reader find, line by line. Definitions only.
---   Standing s c              the cursor c stands in the text s, behind no more lines than bytes
 --   restFrom n s c            what reading the text s from the cursor c on comes to, n rules being announced
 --   HeadIs s r                r is what the first line says, and where the rules begin
 --   Ruled s c i old new d     the line of rule i stands at c, its words were put, and d is the cursor behind it
@@ -16,6 +15,7 @@ use Rattle.text.specs.declared.cursor.Cursor.{Cursor}
 use Rattle.text.specs.declared.cursor.Step.{Step}
 use Rattle.text.specs.declared.cursor.Step.the-variants as step
 use Rattle.text.specs.Text.{Reading, good, refused}
+use Rattle.text.specs.Onward.{Stands}
 use Rattle.rules.specs.Words.{ruleWords, mostRules}
 use Rattle.rule_file.specs.declared.read.Read.{Read}
 use Rattle.rule_file.specs.declared.read.Read.the-variants.{Refused, Rules}
@@ -23,16 +23,12 @@ use Rattle.rule_file.specs.declared.read.Head.{Head}
 use Rattle.rule_file.specs.declared.read.Head.the-variants as head
 use Rattle.rule_file.specs.RuleText.{rules, rulesFrom, rulesIn}
 
-pub record Standing (s : List ℕ) (c : Cursor) : Type 0 where
-  pub within : c .at ≤ length s
-  pub lines : c .lines ≤ c .at
-
 abbrev pub restFrom : ℕ → List ℕ → Cursor → Reading (List ℕ)
 restFrom n s c = rulesFrom (rules n 0 []) s c
 
 pub record Headed (s : List ℕ) (n : ℕ) (d : Cursor) : Type 0 where
   pub moved : rulesIn s ≡ restFrom n s d
-  pub stands : Standing s d
+  pub stands : Stands s d
   pub few : n ≤ mostRules
 
 abbrev pub HeadIs : List ℕ → Head → Type 0
@@ -45,7 +41,7 @@ pub record Ruled (s : List ℕ) (c : Cursor) (i : ℕ) (old new : List ℕ) (d :
       (n : ℕ) (ws : List ℕ) → i < n → rulesFrom (rules n i ws) s c ≡ rulesFrom (rules n (i + 1) (ws ++ words)) s d
   pub size : length words ≡ ruleWords
   pub put : new ≡ sets old (i * ruleWords) words
-  pub stands : Standing s d
+  pub stands : Stands s d
 
 abbrev pub RuleIs : List ℕ → Cursor → ℕ → List ℕ → List ℕ → Step → Type 0
 RuleIs s c i old new (step.Refused why) =

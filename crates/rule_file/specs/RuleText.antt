@@ -14,12 +14,13 @@ use Prim.Native.Nat.{ℕ, zero, suc, _+_}
 use mathlib.Core.Bool.{cond}
 use mathlib.Core.List.{List, [], _∷_, _++_}
 use mathlib.Core.Option.{Option, none, some}
-use lib.ListN.{getD, drop}
+use lib.ListN.{getD}
 use lib.Dec.{ltb, leb, eqb}
 use Rattle.text.specs.declared.cursor.Cursor.{Cursor}
 use Rattle.text.specs.Words.{newline, rulesWord, ruleWord, endWord, oneTab, ruleMarks}
 use Rattle.text.specs.Line.{readLine, printLine}
 use Rattle.text.specs.Text.{split, unlines, Reading, readAll}
+use Rattle.text.specs.Onward.{readOn}
 use Rattle.rules.specs.Words.{mostRules, ruleCount}
 use Rattle.rule_file.specs.Records.{ruleOf, ruleValues, ruleTest, ruleAt}
 
@@ -52,7 +53,7 @@ finish (rules n i ws) = none
 finish (over ws) = some ws
 
 abbrev pub rulesFrom : State → List ℕ → Cursor → Reading (List ℕ)
-rulesFrom st s c = readAll step finish st (c .lines) (split (drop (c .at) s))
+rulesFrom st s c = readOn step finish st s c
 
 unfoldable pub rulesIn : List ℕ → Reading (List ℕ)
 rulesIn s = readAll step finish start 0 (split s)

@@ -15,9 +15,10 @@ use text::words::RULE_MARKS;
 use text::words::RULES;
 ghost use Prim.Native.Nat.{_≤_, _<_};
 ghost use Rattle.rules.specs.Words.{mostRules};
+ghost use Rattle.text.specs.Onward.{Stands};
 ghost use Rattle.rule_file.specs.RuleText.{rulesIn};
 ghost use Rattle.rule_file.specs.ReadRules.{RulesRead};
-ghost use Rattle.rule_file.specs.ReadSteps.{Standing, restFrom, HeadIs, RuleIs, EndIs, PassIs};
+ghost use Rattle.rule_file.specs.ReadSteps.{restFrom, HeadIs, RuleIs, EndIs, PassIs};
 
 pub enum Read {
     Refused(Refusal),
@@ -79,7 +80,7 @@ fn first_line(text: &[u8]) -> Head
 
 // The lines of `n` rules, and the end line.
 fn rule_lines(text: &[u8], c: Cursor, n: usize, rules: &mut [u32]) -> Read
-    requires { ⌜ Standing (now text) c × (n ≤ mostRules) ⌝ }
+    requires { ⌜ Stands (now text) c × (n ≤ mostRules) ⌝ }
     ensures { λ r. ⌜ PassIs (restFrom n (now (text .entry)) c) (now (rules .entry)) (now (rules .exit)) r ⌝ }
 {
     let mut at = c.at;
@@ -101,7 +102,7 @@ fn rule_lines(text: &[u8], c: Cursor, n: usize, rules: &mut [u32]) -> Read
 
 // The line of rule `i`, whose words are put.
 fn rule_line(text: &[u8], c: Cursor, i: usize, rules: &mut [u32]) -> Step
-    requires { ⌜ Standing (now text) c × (i < mostRules) ⌝ }
+    requires { ⌜ Stands (now text) c × (i < mostRules) ⌝ }
     ensures { λ r. ⌜ RuleIs (now (text .entry)) c i (now (rules .entry)) (now (rules .exit)) r ⌝ }
 {
     let lines = c.lines;
@@ -122,7 +123,7 @@ fn rule_line(text: &[u8], c: Cursor, i: usize, rules: &mut [u32]) -> Step
 
 // The end line after `n` rules, with the number of lines before it. Nothing stands after it.
 fn end_line(text: &[u8], c: Cursor, n: usize) -> Read
-    requires { ⌜ Standing (now text) c × (n ≤ mostRules) ⌝ }
+    requires { ⌜ Stands (now text) c × (n ≤ mostRules) ⌝ }
     ensures { λ r. ⌜ EndIs (now (text .entry)) c n r ⌝ }
 {
     let lines = c.lines;

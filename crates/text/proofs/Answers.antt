@@ -1,11 +1,14 @@
 -- From what was read at a place to what the cursor's methods answer.
-use Prim.Native.Nat.{ℕ, _≤_}
-use mathlib.Core.Path.{_≡_}
+use Prim.Native.Nat.{ℕ, _+_, _≤_, _<_}
+use native.Mathlib.Omega.{arith}
+use mathlib.Core.Path.{_≡_, ap, _∙_}
 use mathlib.Core.List.{List}
-use lib.ListN.{length, drop}
+use lib.ListN.{length, getD, drop, replicate, List·getD-append}
+use lib.Seq.{sets-eq}
 use Rattle.refusals.specs.declared.Refusal.{Refusal}
 use Rattle.text.specs.declared.cursor.Number.the-variants.{Value, Refused as NoNumber}
 use Rattle.text.specs.declared.cursor.Step.the-variants.{Next, Refused}
+use Rattle.text.specs.Words.{mostFields}
 use Rattle.text.specs.Numbers.{Got, got, bad}
 use Rattle.text.specs.declared.cursor.Fields.{Fields}
 use Rattle.text.specs.Cursors.{wrongAt, cursorAt, padded, noFields, onNumber, onWord, onFields}
@@ -40,3 +43,10 @@ module _ (s : List ℕ) (k : ℕ) where
       {g : Got (List ℕ)} {why : Refusal} {r : Fields} → g ≡ bad → why ≡ wrongAt k → r ≡ noFields why →
       r ≡ onFields s k g
   fields-refusal e f p = rw (e, p, f)
+
+-- a number of a line stands at its place among the values of an answer
+pub padded-at : (vs : List ℕ) (j : ℕ) → length vs ≤ mostFields → j < length vs → getD (padded vs) j 0 ≡ getD vs j 0
+padded-at vs j few h =
+    let rest : List ℕ = drop (0 + length vs) (replicate mostFields 0) in
+    ap (λ (l : List ℕ). getD l j 0) (sets-eq vs (replicate mostFields 0) 0 (omega arith)) ∙
+    List·getD-append vs rest 0 j h

@@ -11,13 +11,12 @@ use Rattle.facts.proofs.Setting.{sets-append}
 use Rattle.refusals.specs.declared.Refusal.{Refusal}
 use Rattle.text.specs.declared.cursor.Cursor.{Cursor}
 use Rattle.text.specs.declared.cursor.Number.the-variants as number
-use Rattle.text.specs.declared.cursor.Step.the-variants as step
 use Rattle.text.specs.Words.{mostFields}
 use Rattle.text.specs.Places.{placeIn}
 use Rattle.text.specs.Numbers.{Got, got, bad, digitsOf}
-use Rattle.text.specs.Line.{thenRead, readWord, readBehind, fieldsFrom}
-use Rattle.text.specs.Cursors.{wrongAt, cursorAt, padded, onNumber, onWord, behindAt, wordAt}
-use Rattle.text.proofs.Parts.{word-exact, behind-exact}
+use Rattle.text.specs.Line.{readBehind, fieldsFrom}
+use Rattle.text.specs.Cursors.{wrongAt, cursorAt, padded, onNumber, behindAt}
+use Rattle.text.proofs.Parts.{behind-exact}
 
 -- where what is left begins, it is left
 pub left-at : (s front rest : List ℕ) (at : ℕ) → drop at s ≡ front ++ rest → drop (placeIn s rest) s ≡ rest

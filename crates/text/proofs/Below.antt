@@ -1,7 +1,8 @@
 -- Lists of numbers that are all below a limit.
 use Prim.Native.Nat.{ℕ, zero, suc, _<_}
+use native.Mathlib.Omega.{arith}
 use mathlib.Core.List.{List, [], _∷_, _++_}
-use lib.ListN.{getD, take, drop}
+use lib.ListN.{length, getD, take, drop}
 use Rattle.text.specs.Line.{AllBelow}
 
 -- two lists of numbers below a limit are one such list
@@ -26,3 +27,8 @@ pub below-take : (lim i : ℕ) (vs : List ℕ) → AllBelow lim vs → AllBelow 
 below-take lim zero vs b = tt
 below-take lim (suc i) [] b = tt
 below-take lim (suc i) (v ∷ vs) b = (b .0, below-take lim i vs (b .1))
+
+-- numbers that are each below a limit are all below it
+pub below-of : (lim : ℕ) (vs : List ℕ) → ((i : ℕ) → i < length vs → getD vs i 0 < lim) → AllBelow lim vs
+below-of lim [] h = tt
+below-of lim (v ∷ vs) h = (h 0 (omega arith), below-of lim vs (λ i b. h (suc i) (omega arith)))

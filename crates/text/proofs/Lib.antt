@@ -18,4 +18,6 @@ pub mod Behind
 pub mod Views
 pub mod LineViews
 pub mod NextLines
+pub mod Onward
+pub mod Sizes
 pub mod Unique

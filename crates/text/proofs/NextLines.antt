@@ -3,7 +3,7 @@ use Prim.Native.Nat.{ℕ, suc, _+_, _-_, _<_, _≤_}
 use native.Mathlib.Omega.{arith}
 use mathlib.Core.Path.{_≡_, refl, sym, ap, _∙_}
 use mathlib.Core.List.{List, [], _∷_, _++_, append-assoc}
-use mathlib.Core.Option.{Option, none, some}
+use mathlib.Core.Option.{none, some}
 use lib.ListN.{length, take, drop, length-append, length-drop}
 use lib.Seq.{take-add, take-append-seam, drop-append-seam, drop-drop, drop-at, length-take-le}
 use Rattle.refusals.specs.declared.Refusal.{Refusal}
@@ -22,7 +22,7 @@ use Rattle.text.proofs.Places.{place-left}
 use Rattle.text.proofs.Texts.{next-found}
 use Rattle.text.proofs.Behind.{left-at, left-in}
 use Rattle.text.proofs.Views.{next-refused}
-use Rattle.text.proofs.LineViews.{LineHeld, held-by, no-line-by}
+use Rattle.text.proofs.LineViews.{held-by, no-line-by}
 
 -- where a line is found its newline stands behind it
 pub next-text : (s l rest : List ℕ) → nextFrom [] s ≡ line l rest → s ≡ l ++ (newline ∷ rest)

@@ -1,14 +1,14 @@
 -- Reading at a place of a text, a byte at a time: the steps of the loops that read a number, a word and a line's end.
 use Prim.Native.Nat.{ℕ, _+_, _-_, _*_, _^_, _<_, _≤_}
 use native.Mathlib.Omega.{arith}
-use mathlib.Core.Bool.{Bool, true, false}
+use mathlib.Core.Bool.{true, false}
 use mathlib.Core.Path.{_≡_, refl, _∙_}
 use mathlib.Core.List.{List, [], _∷_, _++_}
 use lib.ListN.{length, getD, drop, length-append}
 use borrow.Author.Tests.{lt-ltb, le-ltb, eq-eqb, ne-eqb}
 use Rattle.facts.proofs.Steps.{drop-step, drop-end}
 use Rattle.text.specs.Words.{newline}
-use Rattle.text.specs.Numbers.{Got, got, bad, isDigit, more, readNumber}
+use Rattle.text.specs.Numbers.{got, bad, isDigit, more, readNumber}
 use Rattle.text.specs.Line.{readWord, readBehind}
 use Rattle.text.specs.Text.{line, noLine, nextFrom}
 

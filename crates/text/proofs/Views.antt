@@ -2,7 +2,7 @@
 use Prim.Native.Nat.{ℕ, _≤_}
 use native.Mathlib.Omega.{arith}
 use mathlib.Core.Path.{_≡_, refl, sym, ap, _∙_}
-use mathlib.Core.List.{List, [], _∷_, _++_, append-assoc}
+use mathlib.Core.List.{List, [], _++_, append-assoc}
 use lib.ListN.{length, drop}
 use Rattle.refusals.specs.declared.Refusal.{Refusal}
 use Rattle.text.specs.declared.cursor.Cursor.{Cursor}
@@ -10,7 +10,7 @@ use Rattle.text.specs.declared.cursor.Step.the-variants.{Next, Refused}
 use Rattle.text.specs.declared.cursor.Fields.{Fields}
 use Rattle.text.specs.Places.{within, placeIn}
 use Rattle.text.specs.Numbers.{Got, got, bad}
-use Rattle.text.specs.Line.{readWord, fieldsFrom, readFields, printFields, printLine}
+use Rattle.text.specs.Line.{readWord, readFields, printFields, printLine}
 use Rattle.text.specs.Cursors.{wrongAt, cursorAt, padded, noFields, onWord, onFields, wordAt}
 use Rattle.text.specs.Cursors.{marksAt, fieldsAt}
 use Rattle.text.proofs.Places.{drop-within}

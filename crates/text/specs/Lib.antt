@@ -6,4 +6,5 @@ pub mod Line
 pub mod Text
 pub mod Addresses
 pub mod Cursors
+pub mod Onward
 pub mod Puts

@@ -1,5 +1,4 @@
 -- The text of a tree that is spelt is far shorter than the places of a text can count. The bounds are crude.
---   numberMost    more bytes than a separator and a number of 32 bits take
 --   nodeMost      more bytes than a node's line takes
 use Prim.Native.Nat.{ℕ, zero, suc, _+_, _*_, _≤_, _<_, _^_}
 use native.Mathlib.Omega.{arith}
@@ -8,37 +7,17 @@ use lib.ListN.{length, length-append}
 use Rattle.facts.proofs.Cases.{Split, split, atMost, over}
 use Rattle.trees.specs.Words.{leafMark, nodeCount, fieldOf, countOf}
 use Rattle.text.specs.Words.{treeWord, cutWord, leafWord, endWord, oneTab, threeTabs, fourTabs}
-use Rattle.text.specs.Line.{printFields, printLine, AllBelow}
+use Rattle.text.specs.Line.{AllBelow}
 use Rattle.text.specs.Text.{unlines}
-use Rattle.text.proofs.Numbers.{digits-length}
+use Rattle.text.proofs.Sizes.{line-size}
 use Rattle.text.proofs.Texts.{unlines-more}
 use Rattle.tree_file.specs.TreeLines.{cutNumbers, leafNumbers, leafMarks, nodeLine, nodeLines, headLine, endLine}
 use Rattle.tree_file.specs.TreeLines.{treeText, Spelling}
 use Rattle.tree_file.proofs.Growing.{cut-line, leaf-line}
 use Rattle.tree_file.proofs.Spelling.{sizes-of, spelt-of, few-nodes, entries-count, cut-below, leaf-below}
 
-abbrev numberMost : ℕ
-numberMost = 2 ^ 33
-
 abbrev nodeMost : ℕ
 nodeMost = 2 ^ 44
-
--- ---- lines
-
--- the numbers of a line take no more than so many bytes each
-fields-size :
-    (ms vs : List ℕ) → AllBelow (2 ^ 32) vs → length (printFields ms vs) ≤ length vs * numberMost
-unfolding printFields
-fields-size [] vs b = omega arith
-fields-size (m ∷ ms) [] b = omega arith
-fields-size (m ∷ ms) (v ∷ vs) b =
-    simp length-append (omega (arith, b .0, digits-length v, fields-size ms vs (b .1)))
-
--- a line takes no more than its word and so many bytes for each number
-line-size :
-    (w ms vs : List ℕ) → AllBelow (2 ^ 32) vs → length (printLine w ms vs) ≤ length w + length vs * numberMost
-unfolding printLine
-line-size w ms vs b = simp length-append (omega (arith, fields-size ms vs b))
 
 module _ {n : ℕ} {ws es : List ℕ} (g : Spelling n ws es) (b : AllBelow (2 ^ 32) ws) where
   -- a node's line takes fewer than so many bytes

@@ -12,13 +12,16 @@ use Rattle.text.specs.Words.{treeWord, endWord, oneTab, threeTabs}
 use Rattle.text.specs.Cursors.{wrongAt, cursorAt}
 use Rattle.text.specs.Text.{refused}
 use Rattle.text.proofs.Lines.{line-exact}
+use Rattle.text.specs.Onward.{Stands}
+use Rattle.text.proofs.Answers.{padded-at}
 use Rattle.text.proofs.NextLines.{Taken, LineRefused}
+use Rattle.text.proofs.Onward.{top-stands, next-stands}
 use Rattle.tree_file.specs.declared.read.Read.the-variants as said
 use Rattle.tree_file.specs.declared.read.Counts.{Counts}
 use Rattle.tree_file.specs.declared.read.Head.the-variants.{Refused, Announces}
 use Rattle.tree_file.specs.TreeText.{tree, start, over, headTest, endTest, step, finish, treeIn}
-use Rattle.tree_file.specs.ReadSteps.{Stands, Limits, inNodes, begun, readOn, HeadRead, EndRead}
-use Rattle.tree_file.proofs.Reading.{padded-at, next-stands, on-next, on-wrong, not-taken, more-wrong, none-more}
+use Rattle.tree_file.specs.ReadSteps.{Limits, inNodes, begun, readOn, HeadRead, EndRead}
+use Rattle.tree_file.proofs.Reading.{on-next, on-wrong, not-taken, more-wrong, none-more}
 
 -- ---- the first line
 
@@ -29,9 +32,6 @@ top = cursorAt 0 0
 from-front : (s : List ℕ) → treeIn s ≡ readOn start s top
 unfolding treeIn readOn
 from-front s = refl
-
-top-stands : (s : List ℕ) → Stands s top
-top-stands s = record { inside = omega arith; behind = omega arith }
 
 module _ {s : List ℕ} (small : length s < 2 ^ 63) where
   -- where the first line was not taken the text is refused

@@ -26,7 +26,7 @@ use Rattle.tree_file.specs.TreeText.{cutTest, leafTest, step}
 use Rattle.tree_file.specs.NodeSteps.{Turn, EntriesRead, LineRead}
 use Rattle.tree_file.proofs.Tests.{leaf-passes}
 use Rattle.tree_file.proofs.LeafLine.{fields-count, no-leaf, leaf-decides}
-use Rattle.tree_file.proofs.Reading.{padded-at}
+use Rattle.text.proofs.Answers.{padded-at}
 
 module _ (s : List ℕ) (c : Cursor) (k : Counts) (i filled : ℕ) (turn : Turn k i filled) where
   -- ---- a cut line

@@ -14,15 +14,17 @@ use Rattle.text.specs.declared.cursor.Cursor.{Cursor}
 use Rattle.text.specs.Places.{following}
 use Rattle.text.specs.Text.{refused, line, noLine, nextFrom}
 use Rattle.text.specs.Cursors.{cursorAt}
+use Rattle.text.specs.Onward.{Stands}
 use Rattle.text.proofs.NextLines.{EndAt}
+use Rattle.text.proofs.Onward.{next-stands}
 use Rattle.tree_file.specs.declared.read.Read.{Read}
 use Rattle.tree_file.specs.declared.read.Counts.{Counts}
 use Rattle.tree_file.specs.declared.node.Node.{Node}
 use Rattle.tree_file.specs.declared.node.Node.the-variants.{Refused, Next}
 use Rattle.tree_file.specs.TreeText.{finish}
-use Rattle.tree_file.specs.ReadSteps.{Stands, inNodes, begun, readOn, EndRead, PassRead}
+use Rattle.tree_file.specs.ReadSteps.{inNodes, begun, readOn, EndRead, PassRead}
 use Rattle.tree_file.specs.NodeSteps.{LineRead, NodeRead}
-use Rattle.tree_file.proofs.Reading.{next-stands, on-next, on-wrong, on-stops}
+use Rattle.tree_file.proofs.Reading.{on-next, on-wrong, on-stops}
 
 -- ---- a node's line in its text
 

@@ -42,11 +42,6 @@ under-below n lim (x ∷ l) h e =
     let t = both (ltb x n) (allUnder n l) e in
     (omega (arith, ltb-true x n (t .0)), under-below n lim l h (t .1))
 
--- numbers that are each below a limit are all below it
-pub below-of : (lim : ℕ) (l : List ℕ) → ((i : ℕ) → i < length l → getD l i 0 < lim) → AllBelow lim l
-below-of lim [] h = tt
-below-of lim (x ∷ l) h = (h 0 (omega arith), below-of lim l (λ i b. h (suc i) (omega arith)))
-
 -- the words of node i, cut out of all of them
 words-of :
     (ws : List ℕ) (i : ℕ) → i * nodeWords + nodeWords ≤ length ws →

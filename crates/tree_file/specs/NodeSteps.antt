@@ -20,12 +20,13 @@ use Rattle.text.specs.Words.{tab}
 use Rattle.text.specs.Places.{following}
 use Rattle.text.specs.Line.{fieldsFrom, wholly}
 use Rattle.text.specs.Text.{refused}
+use Rattle.text.specs.Onward.{Stands}
 use Rattle.text.specs.Cursors.{wrongAt, cursorAt}
 use Rattle.tree_file.specs.declared.read.Counts.{Counts}
 use Rattle.tree_file.specs.declared.node.Node.{Node}
 use Rattle.tree_file.specs.declared.node.Node.the-variants.{Refused, Next}
 use Rattle.tree_file.specs.TreeText.{step}
-use Rattle.tree_file.specs.ReadSteps.{Stands, Limits, inNodes, readOn}
+use Rattle.tree_file.specs.ReadSteps.{Limits, inNodes, readOn}
 
 abbrev pub onEntries : ℕ → Option (List ℕ) → Option (List ℕ)
 onEntries n none = none

@@ -1,5 +1,4 @@
 -- What the steps of the tree reader ask for and answer, from the first line to the end line. Definitions only.
---   Stands s c          the cursor stands within the text, behind at least as many bytes as lines
 --   Limits k            the counts that were announced obey the limits
 --   inNodes k i ws es   within the nodes of a tree with the counts k
 --   readOn st s c       what the text says from the cursor on, in that state
@@ -7,26 +6,24 @@
 --   EndRead             the end line behind k entries, and what follows it
 --   PassRead            a pass over a text that says a: its refusal; or the counts, and the words stored as far as
 --                       there is room
-use Prim.Native.Nat.{ℕ, _*_, _≤_}
+use Prim.Native.Nat.{ℕ, _*_}
 use mathlib.Core.Bool.{true}
 use mathlib.Core.Path.{_≡_}
 use mathlib.Core.List.{List, []}
-use lib.ListN.{length, drop}
+use lib.ListN.{length}
 use lib.Seq.{sets}
 use Rattle.refusals.specs.declared.Refusal.{Refusal}
 use Rattle.trees.specs.Words.{nodeWords}
 use Rattle.text.specs.declared.cursor.Cursor.{Cursor}
-use Rattle.text.specs.Text.{split, Reading, good, refused, readAll}
+use Rattle.text.specs.Text.{Reading, good, refused}
+use Rattle.text.specs.Onward.{Stands}
+use Rattle.text.specs.Onward as onward
 use Rattle.tree_file.specs.declared.read.Read.{Read}
 use Rattle.tree_file.specs.declared.read.Read.the-variants as said
 use Rattle.tree_file.specs.declared.read.Counts.{Counts}
 use Rattle.tree_file.specs.declared.read.Head.{Head}
 use Rattle.tree_file.specs.declared.read.Head.the-variants.{Refused, Announces}
 use Rattle.tree_file.specs.TreeText.{Tree, tree, State, within, headTest, step, finish, treeIn}
-
-pub record Stands (s : List ℕ) (c : Cursor) : Type 0 where
-  pub inside : c .at ≤ length s
-  pub behind : c .lines ≤ c .at
 
 pub record Limits (k : Counts) : Type 0 where
   pub fit : headTest (k .rules) (k .nodes) (k .pool) ≡ true
@@ -38,7 +35,7 @@ abbrev pub begun : Counts → State
 begun k = inNodes k 0 [] []
 
 unfoldable pub readOn : State → List ℕ → Cursor → Reading Tree
-readOn st s c = readAll step finish st (c .lines) (split (drop (c .at) s))
+readOn st s c = onward.readOn step finish st s c
 
 pub data HeadRead (s : List ℕ) : Head → Type 0 where
   refuses : {why : Refusal} → treeIn s ≡ refused why → HeadRead s (Refused why)

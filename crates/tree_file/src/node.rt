@@ -21,9 +21,9 @@ ghost use mathlib.Core.Option.{none};
 ghost use lib.ListN.{length, drop};
 ghost use Rattle.text.specs.Words.{cutWord, fourTabs};
 ghost use Rattle.text.specs.Line.{readLine};
+ghost use Rattle.text.specs.Onward.{Stands};
 ghost use Rattle.trees.specs.Words.{mostPool};
 ghost use Rattle.tree_file.specs.TreeText.{cutTest, leafTest};
-ghost use Rattle.tree_file.specs.ReadSteps.{Stands};
 ghost use Rattle.tree_file.specs.NodeSteps.{Turn, EntriesRead, LineRead, NodeRead};
 
 // What a node's line comes to: a refusal; or the entries up to here, and the cursor behind the line.

@@ -15,9 +15,10 @@ use trees::words::MOST_NODES;
 use trees::words::MOST_POOL;
 use trees::words::NODE_WORDS;
 ghost use mathlib.Core.Path.{_≡_};
+ghost use Rattle.text.specs.Onward.{Stands};
 ghost use Rattle.tree_file.specs.TreeText.{headTest, treeIn};
 ghost use Rattle.tree_file.specs.ReadTree.{TreeRead};
-ghost use Rattle.tree_file.specs.ReadSteps.{Stands, Limits, HeadRead, EndRead, PassRead, readOn, begun};
+ghost use Rattle.tree_file.specs.ReadSteps.{Limits, HeadRead, EndRead, PassRead, readOn, begun};
 
 pub enum Read {
     Refused(Refusal),

@@ -4,7 +4,8 @@ use Prim.Native.Nat.{_^_}
 use native.Mathlib.Omega.{arith}
 use denote.Ref.{now}
 use borrow.Author.Needs.{needs}
-use Rattle.rule_file.proofs.Filled.{none-before, below-of}
+use Rattle.text.proofs.Below.{below-of}
+use Rattle.rule_file.proofs.Filled.{none-before}
 use Rattle.rule_file.proofs.WriteAnswers.{text-short, text-written}
 use Rattle.rule_file.proofs.write.write_good.Statement.{statement}
 use Rattle.rule_file.proofs.write.write_good.Tie as tie
@@ -26,7 +27,7 @@ returns c =
     let p = c .before .before .before in
     let k = p .before .before .before in
     let w = k .before in
-    let below = below-of (2 ^ 32) (now (w .args .rules)) (λ i. omega (arith, k .shared-slice-known .given i)) in
+    let below = below-of (2 ^ 32) (now (w .args .rules)) (λ i b. omega (arith, k .shared-slice-known .given i)) in
     let found = none-before (p .write-pass .last .1 .0) (now (w .args .text)) (p .write-pass .kept .1 .0) in
     text-short _ (w .pre) below found (p .write-pass .ensures) (c .if1 .taken)
 
@@ -42,7 +43,7 @@ returns-2 c =
     let p = q .before .before .before .before .before in
     let k = p .before .before .before in
     let w = k .before in
-    let below = below-of (2 ^ 32) (now (w .args .rules)) (λ i. omega (arith, k .shared-slice-known .given i)) in
+    let below = below-of (2 ^ 32) (now (w .args .rules)) (λ i b. omega (arith, k .shared-slice-known .given i)) in
     let found = none-before (p .write-pass .last .1 .0) (now (w .args .text)) (p .write-pass .kept .1 .0) in
     text-written _ (w .pre) below found (p .write-pass .ensures) (q .before .before .if1 .left)
     (q .write-pass2 .ensures)

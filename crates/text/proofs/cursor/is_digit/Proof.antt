@@ -1,5 +1,4 @@
 -- `text::cursor::is_digit` meets its contract. Assumes nothing.
-use mathlib.Core.Path.{sym}
 use borrow.Author.Tests.{lt-leb, le-leb}
 use Rattle.text.specs.Numbers.{isDigit}
 use Rattle.text.proofs.cursor.is_digit.Statement.{statement}

@@ -2,7 +2,6 @@
 use native.Mathlib.Omega.{arith}
 use mathlib.Core.Path.{_≡_, sym, _∙_}
 use borrow.Author.Needs.{needs}
-use Prim.Native.Nat.{ℕ}
 use Rattle.text.specs.Places.{highest}
 use Rattle.text.proofs.Places.{after-few, after-many}
 use Rattle.text.proofs.place.following.Statement.{statement}

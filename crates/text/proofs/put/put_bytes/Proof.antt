@@ -1,5 +1,5 @@
 -- `text::put::put_bytes` meets its contract: at each turn the bytes before it are put. Assumes nothing.
-use Prim.Native.Nat.{ℕ, _-_, _≤_}
+use Prim.Native.Nat.{_-_, _≤_}
 use native.Mathlib.Omega.{arith}
 use lib.ListN.{length, take}
 use lib.Seq.{take-all}

@@ -2,7 +2,6 @@
 use Prim.Native.Nat.{_-_, _≤_}
 use native.Mathlib.Omega.{arith}
 use lib.ListN.{length, take}
-use borrow.Author.Needs.{scaled-fits}
 use Rattle.text.specs.Line.{printFields}
 use Rattle.text.specs.Puts.{Put}
 use Rattle.text.proofs.Puts.{put-none, put-then, put-same, put-length, fields-more, marks-spent, values-spent}

@@ -7,7 +7,7 @@ use lib.ListN.{length}
 use borrow.Author.Needs.{needs}
 use Rattle.text.specs.Words.{endWord, oneTab}
 use Rattle.text.proofs.NextLines.{Taken, line-next, line-refused}
-use Rattle.tree_file.specs.ReadSteps.{Stands}
+use Rattle.text.specs.Onward.{Stands}
 use Rattle.tree_file.proofs.Midway.{few-of}
 use Rattle.tree_file.proofs.HeadEnd.{end-refused, pool-short, lines-wrong, end-followed, end-ends}
 use Rattle.tree_file.proofs.read.end_line.Statement.{statement}

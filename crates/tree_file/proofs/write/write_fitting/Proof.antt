@@ -5,7 +5,7 @@ use lib.ListN.{length}
 use borrow.Author.Needs.{needs}
 use Rattle.tree_file.specs.TreeLines.{treeText}
 use Rattle.tree_file.proofs.Fits.{text-fits}
-use Rattle.tree_file.proofs.Spelling.{below-of}
+use Rattle.text.proofs.Below.{below-of}
 use Rattle.tree_file.proofs.Written.{written-short, written-all}
 use Rattle.tree_file.proofs.write.write_fitting.Statement.{statement}
 use Rattle.tree_file.proofs.write.write_fitting.Tie as tie

@@ -1,5 +1,5 @@
 -- `text::cursor::Cursor::digits` meets its contract: at each turn the digits before it make the value. Assumes nothing.
-use Prim.Native.Nat.{ℕ, _-_, _≤_}
+use Prim.Native.Nat.{_-_, _≤_}
 use native.Mathlib.Omega.{arith}
 use mathlib.Core.Path.{sym, _∙_}
 use lib.ListN.{length, getD}

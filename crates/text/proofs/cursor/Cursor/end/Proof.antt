@@ -1,8 +1,8 @@
 -- `text::cursor::Cursor::end` meets its contract. Assumes nothing.
-use mathlib.Core.Path.{sym, ap, _∙_}
+use mathlib.Core.Path.{ap}
 use borrow.Author.Tests.{lt-ltb, le-ltb}
 use borrow.Author.Needs.{needs}
-use Rattle.text.specs.declared.cursor.Step.the-variants.{Next, Refused}
+use Rattle.text.specs.declared.cursor.Step.the-variants.{Refused}
 use Rattle.text.specs.Cursors.{endAt}
 use Rattle.text.proofs.cursor.Cursor.end.Statement.{statement}
 use Rattle.text.proofs.cursor.Cursor.end.Tie as tie

@@ -1,7 +1,7 @@
 -- `text::cursor::Cursor::line_end` meets its contract: at each turn no newline stands before it. Assumes nothing.
 use Prim.Native.Nat.{_-_}
 use native.Mathlib.Omega.{arith}
-use mathlib.Core.Path.{_≡_, sym, ap, _∙_}
+use mathlib.Core.Path.{sym, ap}
 use lib.ListN.{length}
 use Rattle.text.specs.declared.cursor.LineEnd.the-variants.{At}
 use Rattle.text.specs.Cursors.{lineEndAt}

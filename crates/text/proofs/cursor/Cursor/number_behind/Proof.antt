@@ -2,7 +2,6 @@
 use native.Mathlib.Omega.{arith}
 use mathlib.Core.Path.{sym, ap, _∙_}
 use borrow.Author.Needs.{needs}
-use Rattle.text.specs.Numbers.{Got}
 use Rattle.text.specs.Cursors.{onNumber, numberAt, behindAt}
 use Rattle.text.proofs.Scanning.{behind-none, behind-other, behind-number}
 use Rattle.text.proofs.Answers.{number-refusal}

@@ -1,6 +1,9 @@
-//! Times the library's tree check and tree searches beside a plain Rust walk of the same tree, at the largest sizes.
+//! Times the library's tree check and tree searches beside a plain Rust walk of the same tree, at the largest sizes; and
+//! the writers and readers of both files.
 //!
 //! The plain walk trusts the tree: it looks at no node that its header does not need, refuses nothing and counts nothing.
+
+mod files;
 
 use std::hint::black_box;
 use std::time::{Duration, Instant};
@@ -212,4 +215,5 @@ fn main() {
     });
     assert_eq!(answer, [0, 0, 0, 10, 4, 0, 0, 0]);
     println!("the tree check           {check:?}");
+    files::time(&tree);
 }

@@ -29,6 +29,10 @@ pub nil-of : (l : List ℕ) → length l ≡ 0 → l ≡ []
 nil-of [] e = refl
 nil-of (x ∷ l) e = absurd (omega arith)
 
+-- nothing in front of a list leaves it as it is
+pub none-before : (kept l : List ℕ) → length kept ≡ 0 → kept ++ l ≡ l
+none-before kept l e = ap (λ (k : List ℕ). k ++ l) (nil-of kept e)
+
 -- a list of length n is the table of what stands at its places
 pub cells : (n : ℕ) (l : List ℕ) → length l ≡ n → l ≡ tab n (λ i. getD l i 0)
 unfolding tab

@@ -1,4 +1,4 @@
--- Lent words: nothing kept in front of them, and words of 0 that are filled.
+-- Lent words of 0 that are filled.
 use Prim.Native.Nat.{ℕ, _+_}
 use native.Mathlib.Omega.{arith}
 use mathlib.Core.List.{List, _++_, append-nil}
@@ -6,11 +6,6 @@ use mathlib.Core.Path.{_≡_, ap, _∙_}
 use lib.ListN.{length, replicate, length-replicate}
 use lib.Seq.{sets, sets-eq}
 use Rattle.facts.proofs.Steps.{drop-end}
-use Rattle.facts.proofs.Setting.{nil-of}
-
--- nothing in front of a list leaves it as it is
-pub none-before : (kept l : List ℕ) → length kept ≡ 0 → kept ++ l ≡ l
-none-before kept l e = ap (λ (k : List ℕ). k ++ l) (nil-of kept e)
 
 -- where words of 0 are set to as many others, these are all
 pub filled-all : (n : ℕ) (vs : List ℕ) → length vs ≡ n → sets (replicate n 0) 0 vs ≡ vs

@@ -12,6 +12,7 @@ pub mod Cut
 pub mod Addresses
 pub mod Places
 pub mod Puts
+pub mod Tabbed
 pub mod Scanning
 pub mod Answers
 pub mod Behind

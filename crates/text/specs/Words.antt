@@ -1,8 +1,9 @@
 -- The fixed words and the separators of lines, as bytes. Definitions only.
 --   newline, tab                      the byte that ends a line, and the one that parts its fields
---   rulesWord .. headWord             `rules`, `rule`, `tree`, `cut`, `leaf`, `end` and `head`
+--   rulesWord .. refusedWord          `rules`, `rule`, `tree`, `cut`, `leaf`, `end`, `head`, `hit` and `refused`
 --   oneTab .. fourTabs                the separators of a line of one to four numbers
 --   ruleMarks                         those of a rule: its number; two addresses with their lengths; six range ends
+--   headMarks                         those of a header: two addresses, and three numbers
 --   mostFields                        the most numbers of a line with fixed separators
 use Prim.Native.Nat.{ℕ}
 use mathlib.Core.List.{List, [], _∷_}
@@ -34,6 +35,12 @@ endWord = 101 ∷ 110 ∷ 100 ∷ []
 abbrev pub headWord : List ℕ
 headWord = 104 ∷ 101 ∷ 97 ∷ 100 ∷ []
 
+abbrev pub hitWord : List ℕ
+hitWord = 104 ∷ 105 ∷ 116 ∷ []
+
+abbrev pub refusedWord : List ℕ
+refusedWord = 114 ∷ 101 ∷ 102 ∷ 117 ∷ 115 ∷ 101 ∷ 100 ∷ []
+
 abbrev pub oneTab : List ℕ
 oneTab = tab ∷ []
 
@@ -48,6 +55,9 @@ fourTabs = tab ∷ tab ∷ tab ∷ tab ∷ []
 
 abbrev pub ruleMarks : List ℕ
 ruleMarks = 9 ∷ 9 ∷ 46 ∷ 46 ∷ 46 ∷ 47 ∷ 9 ∷ 46 ∷ 46 ∷ 46 ∷ 47 ∷ 9 ∷ 9 ∷ 9 ∷ 9 ∷ 9 ∷ 9 ∷ []
+
+abbrev pub headMarks : List ℕ
+headMarks = 9 ∷ 46 ∷ 46 ∷ 46 ∷ 9 ∷ 46 ∷ 46 ∷ 46 ∷ 9 ∷ 9 ∷ 9 ∷ []
 
 abbrev pub mostFields : ℕ
 mostFields = 17

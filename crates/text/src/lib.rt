@@ -2,7 +2,8 @@
 // bytes. Both files and the program's input are lines of this kind: a word, and numbers, each behind its separator.
 //   cursor::Cursor::line_end, whole, line          the next newline; all that is left, as a line; the next line
 //   cursor::Cursor::fields, number_behind, end     its parts: the word and its numbers; one number; nothing more
-//   put::put_line, put_fields, put_behind, put     the same, written as far as there is room
+//   put::put_line, put_fields, put_numbers         the same, written as far as there is room
+//   put::put_bytes, put_behind, put_wide, put      its parts: a word; a number behind a separator; one byte
 //   address::octets_fit, address_of                the address of four octets
 //   words                                          the fixed words and separators
 // Each takes any bytes and any places. Rests on facts and refusals.

@@ -2,7 +2,10 @@
 // that the same calls on no room at all count the bytes.
 use crate::place::following;
 use crate::words::NEWLINE;
+use crate::words::TAB;
 ghost use mathlib.Core.List.{[], _∷_, _++_};
+ghost use lib.ListN.{length, replicate};
+ghost use Rattle.text.specs.Words.{tab};
 ghost use Rattle.text.specs.Numbers.{digitsOf};
 ghost use Rattle.text.specs.Line.{printFields, printLine};
 ghost use Rattle.text.specs.Puts.{Put};
@@ -47,8 +50,29 @@ pub fn put_fields(out: &mut [u8], at: usize, marks: &[u8], values: &[u32]) -> us
     p
 }
 
-// A separator and a number behind it.
+// Each number behind a tab.
+pub fn put_numbers(out: &mut [u8], at: usize, values: &[u32]) -> usize
+    ensures { λ r. ⌜ Put (now (out .entry)) at
+        (printFields (replicate (length (now (values .entry))) tab) (now (values .entry))) (now (out .exit)) r ⌝ }
+{
+    let mut p = at;
+    let mut i = 0;
+    while i < values.len() {
+        p = put_behind(out, p, TAB, values[i]);
+        i += 1;
+    }
+    p
+}
+
+// A separator and a number of 32 bits behind it.
 pub fn put_behind(out: &mut [u8], at: usize, mark: u8, value: u32) -> usize
+    ensures { λ r. ⌜ Put (now (out .entry)) at (mark ∷ digitsOf value) (now (out .exit)) r ⌝ }
+{
+    put_wide(out, at, mark, value as u64)
+}
+
+// A separator and a number of 64 bits behind it.
+pub fn put_wide(out: &mut [u8], at: usize, mark: u8, value: u64) -> usize
     ensures { λ r. ⌜ Put (now (out .entry)) at (mark ∷ digitsOf value) (now (out .exit)) r ⌝ }
 {
     let p = put(out, at, mark);
@@ -56,7 +80,7 @@ pub fn put_behind(out: &mut [u8], at: usize, mark: u8, value: u32) -> usize
 }
 
 // A number in decimal.
-fn put_number(out: &mut [u8], at: usize, value: u32) -> usize
+fn put_number(out: &mut [u8], at: usize, value: u64) -> usize
     ensures { λ r. ⌜ Put (now (out .entry)) at (digitsOf value) (now (out .exit)) r ⌝ }
 {
     if value < 10 {

@@ -1,4 +1,4 @@
-// The fixed words of the two files and of the program's input, and the bytes that part them. Readers compare these and
+// The fixed words of the two files and of the program's lines, and the bytes that part them. Readers compare these and
 // writers put them; they stand nowhere else.
 pub const RULES: [u8; 5] = *b"rules";
 
@@ -13,6 +13,10 @@ pub const LEAF: [u8; 4] = *b"leaf";
 pub const END: [u8; 3] = *b"end";
 
 pub const HEAD: [u8; 4] = *b"head";
+
+pub const HIT: [u8; 3] = *b"hit";
+
+pub const REFUSED: [u8; 7] = *b"refused";
 
 // The byte that ends a line, and the one that parts its fields.
 pub const NEWLINE: u8 = 10;
@@ -30,6 +34,9 @@ pub const FOUR_TABS: [u8; 4] = *b"\t\t\t\t";
 
 // A rule's: its number; two addresses, each with its length; six range ends.
 pub const RULE_MARKS: [u8; 17] = *b"\t\t.../\t.../\t\t\t\t\t\t";
+
+// A header's: two addresses, and three numbers.
+pub const HEAD_MARKS: [u8; 11] = *b"\t...\t...\t\t\t";
 
 // The most numbers of a line with fixed separators.
 pub const MOST_FIELDS: usize = 17;

@@ -1,10 +1,10 @@
 -- What the reader answers behind a first pass on no room, which leaves the lent words as they were, with nothing in
 -- front of them.
 use Prim.Native.Nat.{ℕ, _*_, _≤_, _<_}
-use mathlib.Core.Path.{_≡_, refl, ap}
+use mathlib.Core.Path.{_≡_, refl}
 use mathlib.Core.List.{List, _++_}
 use lib.ListN.{length}
-use Rattle.facts.proofs.Setting.{nil-of}
+use Rattle.facts.proofs.Setting.{none-before}
 use Rattle.refusals.specs.declared.Refusal.{Refusal}
 use Rattle.refusals.specs.declared.Refusal.the-variants.{OutputShort}
 use Rattle.trees.specs.Words.{nodeWords}
@@ -14,10 +14,6 @@ use Rattle.tree_file.specs.TreeText.{treeIn}
 use Rattle.tree_file.specs.ReadTree.{TreeRead}
 use Rattle.tree_file.specs.ReadSteps.{PassRead}
 use Rattle.tree_file.proofs.Answers.{stored-of, text-refused, nodes-short, pool-short, text-stored}
-
--- nothing in front of a list leaves it as it is
-none-before : (kept l : List ℕ) → length kept ≡ 0 → kept ++ l ≡ l
-none-before kept l e = ap (λ (k : List ℕ). k ++ l) (nil-of kept e)
 
 module _ (s nodes pool kept kept′ : List ℕ) (none : length kept ≡ 0) (none′ : length kept′ ≡ 0)
     {a b c d : List ℕ} where

@@ -1,15 +1,12 @@
 -- The text of a tree, part by part, as it is put.
---   entriesTo es j     the first j entries of a leaf line, each behind a tab
-use Prim.Native.Nat.{ℕ, zero, suc, _+_, _-_, _≤_, _<_}
+use Prim.Native.Nat.{ℕ, _+_, _-_, _≤_, _<_}
 use native.Mathlib.Omega.{arith}
 use mathlib.Core.Path.{_≡_, refl, sym, ap, _∙_}
 use mathlib.Core.List.{List, [], _∷_, _++_, append-assoc, append-nil}
-use lib.ListN.{length, getD, take, drop, replicate, length-replicate, length-take, length-drop}
+use lib.ListN.{length, take, drop, length-take, length-drop}
 use Rattle.text.specs.Words.{newline, tab, cutWord, leafWord, twoTabs, fourTabs}
-use Rattle.text.specs.Numbers.{digitsOf}
 use Rattle.text.specs.Line.{printFields, printLine}
 use Rattle.text.specs.Text.{unlines}
-use Rattle.text.proofs.Puts.{fields-more, values-spent}
 use Rattle.text.proofs.Texts.{unlines-more}
 use Rattle.trees.specs.Words.{leafMark, nodeCount, fieldOf, startOf, countOf}
 use Rattle.trees.proofs.Spelling.{part-is-entries}
@@ -17,35 +14,7 @@ use Rattle.tree_file.specs.TreeLines.{cutNumbers, leafMarks, nodeLine, n
 use Rattle.tree_file.proofs.Growing.{cut-line, leaf-line}
 use Rattle.tree_file.proofs.Midway.{lines-step}
 
--- ---- the entries of a leaf line
-
--- each separator of so many tabs is a tab
-tab-at : (n j : ℕ) → j < n → getD (replicate n tab) j 0 ≡ tab
-tab-at zero j h = absurd (omega arith)
-tab-at (suc n) zero h = refl
-tab-at (suc n) (suc j) h = tab-at n j (omega arith)
-
-unfoldable pub entriesTo : List ℕ → ℕ → List ℕ
-entriesTo es j = printFields (take j (replicate (length es) tab)) (take j es)
-
--- no entries
-pub entries-none : (es : List ℕ) → [] ≡ entriesTo es 0
-unfolding entriesTo printFields
-entries-none es = refl
-
--- one entry more
-pub entries-more :
-    (es : List ℕ) (j : ℕ) → j < length es → entriesTo es j ++ (tab ∷ digitsOf (getD es j 0)) ≡ entriesTo es (j + 1)
-unfolding entriesTo
-entries-more es j h =
-    ap (λ (m : ℕ). entriesTo es j ++ (m ∷ digitsOf (getD es j 0))) (sym (tab-at (length es) j h)) ∙
-    fields-more (replicate (length es) tab) es j (rw (length-replicate (length es) tab) h) h
-
--- all entries
-pub entries-all :
-    (es : List ℕ) (j : ℕ) → length es ≤ j → entriesTo es j ≡ printFields (replicate (length es) tab) es
-unfolding entriesTo
-entries-all es j h = values-spent (replicate (length es) tab) es j h
+-- ---- a leaf line
 
 -- the parts of a leaf line make it
 pub leaf-parts :

@@ -4,17 +4,16 @@ use refusals::Refusal;
 use refusals::Verdict;
 use rules::words::MOST_RULES;
 use text::put::put;
-use text::put::put_behind;
 use text::put::put_bytes;
 use text::put::put_fields;
 use text::put::put_line;
+use text::put::put_numbers;
 use text::words::CUT;
 use text::words::END;
 use text::words::FOUR_TABS;
 use text::words::LEAF;
 use text::words::NEWLINE;
 use text::words::ONE_TAB;
-use text::words::TAB;
 use text::words::THREE_TABS;
 use text::words::TREE;
 use text::words::TWO_TABS;
@@ -28,10 +27,10 @@ use trees::words::VALUE;
 ghost use Prim.Native.Nat.{_≤_};
 ghost use mathlib.Core.Path.{_≡_};
 ghost use mathlib.Core.List.{[], _∷_, _++_};
-ghost use lib.ListN.{length, replicate};
+ghost use lib.ListN.{length};
 ghost use Rattle.trees.specs.Words.{mostNodes};
-ghost use Rattle.text.specs.Words.{newline, tab, cutWord, leafWord, fourTabs};
-ghost use Rattle.text.specs.Line.{printFields, printLine};
+ghost use Rattle.text.specs.Words.{newline, cutWord, leafWord, fourTabs};
+ghost use Rattle.text.specs.Line.{printLine};
 ghost use Rattle.text.specs.Puts.{Put};
 ghost use Rattle.tree_file.specs.TreeLines.{headLine, endLine, nodeLine, leafMarks, treeText, Spelling};
 ghost use Rattle.tree_file.specs.WriteTree.{treeVerdict, TreeWritten};
@@ -141,22 +140,8 @@ fn put_leaf(text: &mut [u8], at: usize, i: u32, count: u32, entries: &[u32]) -> 
     let p = put_bytes(text, at, &LEAF);
     let values = [i, count];
     let q = put_fields(text, p, &TWO_TABS, &values);
-    let r = put_entries(text, q, entries);
+    let r = put_numbers(text, q, entries);
     put(text, r, NEWLINE)
-}
-
-// Each entry behind a tab.
-fn put_entries(text: &mut [u8], at: usize, entries: &[u32]) -> usize
-    ensures { λ r. ⌜ Put (now (text .entry)) at
-        (printFields (replicate (length (now (entries .entry))) tab) (now (entries .entry))) (now (text .exit)) r ⌝ }
-{
-    let mut p = at;
-    let mut j = 0;
-    while j < entries.len() {
-        p = put_behind(text, p, TAB, entries[j]);
-        j += 1;
-    }
-    p
 }
 
 // The end line.

@@ -5,9 +5,9 @@ use mathlib.Core.Path.{refl, subst}
 use lib.ListN.{take}
 use denote.Ref.{now}
 use borrow.Author.Needs.{needs}
+use Rattle.facts.proofs.Setting.{none-before}
 use Rattle.rule_file.specs.RuleText.{rulesIn}
 use Rattle.rule_file.specs.ReadSteps.{PassIs}
-use Rattle.rule_file.proofs.Filled.{none-before}
 use Rattle.rule_file.proofs.ReadAnswers.{text-refused, room-refused, read-again}
 use Rattle.rule_file.proofs.read.read_rules.Statement.{statement}
 use Rattle.rule_file.proofs.read.read_rules.Tie as tie

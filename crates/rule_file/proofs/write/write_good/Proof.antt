@@ -4,8 +4,8 @@ use Prim.Native.Nat.{_^_}
 use native.Mathlib.Omega.{arith}
 use denote.Ref.{now}
 use borrow.Author.Needs.{needs}
+use Rattle.facts.proofs.Setting.{none-before}
 use Rattle.text.proofs.Below.{below-of}
-use Rattle.rule_file.proofs.Filled.{none-before}
 use Rattle.rule_file.proofs.WriteAnswers.{text-short, text-written}
 use Rattle.rule_file.proofs.write.write_good.Statement.{statement}
 use Rattle.rule_file.proofs.write.write_good.Tie as tie

@@ -21,8 +21,8 @@ slice-aggregate-put-fields-2 c = search needs
 put-fields-requires : tie.Need-put-fields-requires
 put-fields-requires c κs = search needs
 
-put-entries-requires : tie.Need-put-entries-requires
-put-entries-requires c κs = search needs
+put-numbers-requires : tie.Need-put-numbers-requires
+put-numbers-requires c κs = search needs
 
 put-requires : tie.Need-put-requires
 put-requires c κs = search needs
@@ -39,7 +39,7 @@ returns c =
     put-same (leaf-parts _ _ _ _)
     (put-then (omega arith)
     (put-then (omega arith) (put-then (omega arith) (word .put-bytes .ensures) (fields .put-fields .ensures))
-    (entries .put-entries .ensures))
+    (entries .put-numbers .ensures))
     (newline .put .ensures))
 
 pub put-leaf-spec : {M : Type 1} → statement M
@@ -51,7 +51,7 @@ put-leaf-spec =
     slice-aggregate-put-fields
     slice-aggregate-put-fields-2
     put-fields-requires
-    put-entries-requires
+    put-numbers-requires
     put-requires
     same-length
     returns)

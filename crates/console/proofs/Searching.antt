@@ -1,0 +1,89 @@
+-- What the search answers, by the list or by the tree, and the line that is made of it.
+use Prim.Native.Nat.{ℕ, _≤_}
+use native.Mathlib.Omega.{arith}
+use mathlib.Core.Bool.{Bool, true, false}
+use mathlib.Core.Path.{_≡_, sym, ap, _∙_}
+use mathlib.Core.List.{List, [], _∷_}
+use lib.ListN.{length, take, drop, length-append}
+use Rattle.facts.specs.Lists.{written}
+use Rattle.facts.proofs.Setting.{written-front}
+use Rattle.refusals.specs.declared.Refusal.{Refusal}
+use Rattle.refusals.specs.declared.Verdict.{Verdict}
+use Rattle.refusals.specs.declared.Verdict.the-variants as verdict
+use Rattle.refusals.specs.Paper.{success}
+use Rattle.refusals.proofs.Order.{giving-refused, giving-fine, leaving-fine}
+use Rattle.refusals.proofs.Giving.{success-giving, refusal-giving}
+use Rattle.rules.specs.declared.line.Listed.{Listed}
+use Rattle.rules.specs.declared.line.Listed.the-variants as listed
+use Rattle.rules.specs.LineAll.{lineAll, lineAllWords, LineAllSearched}
+use Rattle.rules.specs.LineAll as line
+use Rattle.trees.specs.declared.search.TreeListed.{TreeListed}
+use Rattle.trees.specs.declared.search.TreeListed.the-variants as treed
+use Rattle.trees.specs.Search.{treeList}
+use Rattle.trees.specs.TreeAll.{treeAllVerdict, treeAll, treeAllWords, TreeAllSearched}
+use Rattle.trees.specs.TreeAll as tree
+use Rattle.console.specs.Lines.{refusedLine, hitLine}
+use Rattle.console.specs.Replies.{searchVerdict, searchList, Found, answerOf}
+
+-- ---- by the list or by the tree
+
+module _ (rs nodes pool h : List ℕ) {before after : List ℕ} where
+  -- the line search is the search by the list
+  pub by-list :
+      {t : Bool} {r : Listed} → t ≡ false → LineAllSearched rs h before r after →
+      Found (searchVerdict t rs nodes pool h (length before)) (searchList t rs nodes pool h) before r after
+  unfolding searchVerdict searchList lineAll lineAllWords
+  by-list e p = rw e (record { answers = p .answers; leaves = p .leaves })
+
+  -- a tree search that refuses is the search by the tree
+  pub by-tree-refused :
+      {t : Bool} {r : TreeListed} {why : Refusal} → t ≡ true → r ≡ treed.Refused why →
+      TreeAllSearched rs nodes pool h before r after →
+      Found (searchVerdict t rs nodes pool h (length before)) (searchList t rs nodes pool h) before
+      (listed.Refused why) after
+  unfolding searchVerdict searchList treeAll treeAllWords
+  by-tree-refused {why = why} e f p =
+      let v : treeAllVerdict rs nodes pool h (length before) ≡ verdict.Refused why =
+      refusal-giving _ _ (ap tree.paper (sym f) ∙ p .answers) in
+      rw e (record { answers = sym (giving-refused _ v); leaves = p .leaves })
+
+  -- so is one that finds numbers
+  pub by-tree-found :
+      {t : Bool} {r : TreeListed} {n visited compared : ℕ} → t ≡ true → r ≡ treed.Found n visited compared →
+      TreeAllSearched rs nodes pool h before r after →
+      Found (searchVerdict t rs nodes pool h (length before)) (searchList t rs nodes pool h) before
+      (listed.Found n) after
+  unfolding searchVerdict searchList treeAll treeAllWords
+  by-tree-found {n = n} e f p =
+      let v = success-giving (treeAllVerdict rs nodes pool h (length before)) _ (ap tree.paper (sym f) ∙ p .answers) in
+      let same : n ∷ [] ≡ length (treeList rs nodes pool h) ∷ [] = ap (λ (l : List ℕ). take 1 l) (v .1) in
+      rw e (record { answers = ap success same ∙ sym (giving-fine _ (v .0)); leaves = p .leaves })
+
+-- ---- the line that is made of it
+
+module _ {v : Verdict} {ms before after : List ℕ} {r : Listed} (p : Found v ms before r after) where
+  -- a refusal is answered as such
+  pub found-refused : {why : Refusal} → r ≡ listed.Refused why → refusedLine why ≡ answerOf v ms
+  unfolding answerOf
+  found-refused {why} f =
+      let e : v ≡ verdict.Refused why = refusal-giving v (length ms ∷ []) (ap line.paper (sym f) ∙ p .answers) in rw e
+
+  module _ {n : ℕ} (f : r ≡ listed.Found n) where
+    found-fine : (v ≡ verdict.Fine) × (n ∷ [] ≡ length ms ∷ [])
+    found-fine = success-giving v (length ms ∷ []) (ap line.paper (sym f) ∙ p .answers)
+
+    found-count : length ms ≡ n
+    found-count = let e = found-fine .1 in cc
+
+    found-words : after ≡ written ms before
+    found-words = p .leaves ∙ leaving-fine _ before (found-fine .0)
+
+    -- as many numbers as are said are there
+    pub found-fits : n ≤ length after
+    unfolding written
+    found-fits = rw (found-words, length-append ms (drop (length ms) before)) (omega (arith, found-count))
+
+    -- the numbers in front are answered as a hit
+    pub found-hit : hitLine (take n after) ≡ answerOf v ms
+    unfolding answerOf
+    found-hit = rw (found-fine .0) (ap hitLine (ap (take n) found-words ∙ written-front ms before n found-count))

@@ -1,0 +1,83 @@
+// The reply to one input line: the header is searched for in the list line by line, or by a tree.
+use crate::head::head_in;
+use crate::say::Replied;
+use crate::say::hit_line;
+use crate::say::refused_line;
+use rules::line::Listed;
+use rules::line::line_all;
+use rules::words::MOST_RULES;
+use text::cursor::wrong;
+use trees::search::TreeListed;
+use trees::search::tree_all;
+ghost use lib.ListN.{length};
+ghost use Rattle.console.specs.Lines.{Said};
+ghost use Rattle.console.specs.Replies.{searchVerdict, searchList, Found, answerTo, lineReply};
+
+// The reply to a line, its newline apart, that has so many lines before it: by the tree if the tree check accepted it,
+// else by the list. A refusal writes nothing.
+pub fn reply(
+    rules: &[u32],
+    nodes: &[u32],
+    pool: &[u32],
+    accepted: bool,
+    lines: usize,
+    line: &[u8],
+    out: &mut [u8],
+) -> Replied
+    ensures { λ r. ⌜ Said (lineReply (answerTo accepted (now (rules .entry)) (now (nodes .entry)) (now (pool .entry)))
+        lines (now (line .entry))) (now (out .entry)) r (now (out .exit)) ⌝ }
+{
+    let head = head_in(line);
+    let header = head.header;
+    if !head.asked {
+        return refused_line(wrong(lines), out);
+    }
+    answer(rules, nodes, pool, accepted, &header, out)
+}
+
+// The answer to a header.
+fn answer(
+    rules: &[u32],
+    nodes: &[u32],
+    pool: &[u32],
+    accepted: bool,
+    header: &[u32],
+    out: &mut [u8],
+) -> Replied
+    ensures { λ r. ⌜ Said (answerTo accepted (now (rules .entry)) (now (nodes .entry)) (now (pool .entry))
+        (now (header .entry))) (now (out .entry)) r (now (out .exit)) ⌝ }
+{
+    let mut found = [0u32; MOST_RULES];
+    match search(rules, nodes, pool, accepted, header, &mut found) {
+        Listed::Refused(why) => refused_line(why, out),
+        Listed::Found { count } => hit_line(&found[..count], out),
+    }
+}
+
+// Every number that matches, by the tree or by the list.
+fn search(
+    rules: &[u32],
+    nodes: &[u32],
+    pool: &[u32],
+    accepted: bool,
+    header: &[u32],
+    out: &mut [u32],
+) -> Listed
+    ensures { λ r. ⌜ Found
+        (searchVerdict accepted (now (rules .entry)) (now (nodes .entry)) (now (pool .entry)) (now (header .entry))
+        (length (now (out .entry))))
+        (searchList accepted (now (rules .entry)) (now (nodes .entry)) (now (pool .entry)) (now (header .entry)))
+        (now (out .entry)) r (now (out .exit)) ⌝ }
+{
+    if !accepted {
+        return line_all(rules, header, out);
+    }
+    match tree_all(rules, nodes, pool, header, out) {
+        TreeListed::Refused(why) => Listed::Refused(why),
+        TreeListed::Found {
+            count,
+            visited: _,
+            compared: _,
+        } => Listed::Found { count },
+    }
+}

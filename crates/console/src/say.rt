@@ -1,0 +1,72 @@
+// The lines that the program writes. Each is counted first, on no room at all, and then put if there is room for it.
+use refusals::Refusal;
+use refusals::extra_of;
+use refusals::number_of;
+use refusals::place_of;
+use text::put::put;
+use text::put::put_bytes;
+use text::put::put_numbers;
+use text::put::put_wide;
+use text::words::HIT;
+use text::words::NEWLINE;
+use text::words::REFUSED;
+use text::words::TAB;
+ghost use Prim.Native.Nat.{_≤_};
+ghost use lib.ListN.{length};
+ghost use Rattle.rules.specs.Words.{mostRules};
+ghost use Rattle.text.specs.Puts.{Put};
+ghost use Rattle.console.specs.Lines.{refusedLine, hitLine, Said};
+
+pub enum Replied {
+    Refused(Refusal),
+    Written { bytes: usize },
+}
+
+// The line of a refusal, from the front of `out` on; the rest of `out` is as found.
+pub fn refused_line(why: Refusal, out: &mut [u8]) -> Replied
+    ensures { λ r. ⌜ Said (refusedLine why) (now (out .entry)) r (now (out .exit)) ⌝ }
+{
+    let needed = put_refused(why, &mut out[..0]);
+    if out.len() < needed {
+        return Replied::Refused(Refusal::OutputShort { needed, output: 0 });
+    }
+    Replied::Written {
+        bytes: put_refused(why, out),
+    }
+}
+
+// The line of the numbers that match.
+pub(crate) fn hit_line(numbers: &[u32], out: &mut [u8]) -> Replied
+    requires { ⌜ length (now numbers) ≤ mostRules ⌝ }
+    ensures { λ r. ⌜ Said (hitLine (now (numbers .entry))) (now (out .entry)) r (now (out .exit)) ⌝ }
+{
+    let needed = put_hit(numbers, &mut out[..0]);
+    if out.len() < needed {
+        return Replied::Refused(Refusal::OutputShort { needed, output: 0 });
+    }
+    Replied::Written {
+        bytes: put_hit(numbers, out),
+    }
+}
+
+// `refused`, number, place and extra; it answers how many bytes that makes.
+fn put_refused(why: Refusal, out: &mut [u8]) -> usize
+    ensures { λ r. ⌜ Put (now (out .entry)) 0 (refusedLine why) (now (out .exit)) r ×
+        (length (refusedLine why) ≤ 71) ⌝ }
+{
+    let p = put_bytes(out, 0, &REFUSED);
+    let q = put_wide(out, p, TAB, number_of(why));
+    let r = put_wide(out, q, TAB, place_of(why));
+    let s = put_wide(out, r, TAB, extra_of(why));
+    put(out, s, NEWLINE)
+}
+
+// `hit`, how many, and the numbers.
+fn put_hit(numbers: &[u32], out: &mut [u8]) -> usize
+    ensures { λ r. ⌜ Put (now (out .entry)) 0 (hitLine (now (numbers .entry))) (now (out .exit)) r ⌝ }
+{
+    let p = put_bytes(out, 0, &HIT);
+    let q = put_wide(out, p, TAB, numbers.len() as u64);
+    let r = put_numbers(out, q, numbers);
+    put(out, r, NEWLINE)
+}

@@ -1,0 +1,67 @@
+// The two files: each reader and writer, and the line that says its answer.
+use crate::say::begin;
+use crate::say::end;
+use crate::say::refused;
+use crate::say::value;
+use rule_file::read::Read as ListRead;
+use rule_file::read::read_rules;
+use rule_file::write::Written as ListWritten;
+use rule_file::write::write_rules;
+use tree_file::read::Read as TreeRead;
+use tree_file::read::read_tree;
+use tree_file::write::Written as TreeWritten;
+use tree_file::write::write_tree;
+
+// The number of rules of a text.
+pub fn read_list(example: &[u8], text: &[u8], list: &mut [u32]) {
+    begin(example, b"read_rules");
+    match read_rules(text, list) {
+        ListRead::Refused(why) => refused(why),
+        ListRead::Rules { rules } => {
+            value(0);
+            value(rules as u64);
+        }
+    }
+    end();
+}
+
+// The bytes of a list's text.
+pub fn write_list(example: &[u8], list: &[u32], text: &mut [u8]) {
+    begin(example, b"write_rules");
+    match write_rules(list, text) {
+        ListWritten::Refused(why) => refused(why),
+        ListWritten::Bytes { bytes } => {
+            value(0);
+            value(bytes as u64);
+        }
+    }
+    end();
+}
+
+// The numbers of rules, nodes and pool words of a text.
+pub fn read_nodes(example: &[u8], text: &[u8], nodes: &mut [u32], pool: &mut [u32]) {
+    begin(example, b"read_tree");
+    match read_tree(text, nodes, pool) {
+        TreeRead::Refused(why) => refused(why),
+        TreeRead::Tree { rules, nodes, pool } => {
+            value(0);
+            value(rules as u64);
+            value(nodes as u64);
+            value(pool as u64);
+        }
+    }
+    end();
+}
+
+// The bytes of a tree's text, there being so many rules.
+pub fn write_nodes(example: &[u8], rules: usize, nodes: &[u32], pool: &[u32], text: &mut [u8]) {
+    begin(example, b"write_tree");
+    match write_tree(rules, nodes, pool, text) {
+        TreeWritten::Refused(why) => refused(why),
+        TreeWritten::Bytes { bytes } => {
+            value(0);
+            value(bytes as u64);
+        }
+    }
+    end();
+}

@@ -1,0 +1,124 @@
+// The limits, on both sides.
+use crate::calls::check_list;
+use crate::calls::check_tree;
+use crate::calls::search_list;
+use crate::calls::search_tree;
+use crate::files::read_list;
+use crate::policy::web;
+ghost use Prim.Native.Nat.{_≤_, _<_};
+
+// One address, 10.1.2.3/32. The trees cut it out: 167838210 is the address below it.
+pub fn length_32() {
+    let list = [0x0a010203, 32, 0, 0, 0, 65535, 0, 65535, 0, 255];
+    check_list(b"length 32", &list);
+    search_list(b"length 32, that address", &list, &web(0x0a010203));
+    search_list(b"length 32, the address below", &list, &web(0x0a010202));
+    search_list(b"length 32, the address above", &list, &web(0x0a010204));
+    let nodes = [0, 167838210, 2, 5, 0, 0, 0, 167838211, 4, 5, 0, 1, 5, 1, 0];
+    check_tree(b"length 32, a leaf of one address", &list, &nodes, &[0]);
+    let lacking = [0, 167838210, 2, 5, 0, 0, 0, 167838211, 4, 5, 0, 0, 5, 0, 0];
+    check_tree(b"length 32, lacking in that leaf", &list, &lacking, &[]);
+}
+
+// Length 0 agrees with everything.
+pub fn length_0() {
+    let list = [0, 0, 0, 0, 0, 65535, 0, 65535, 0, 255];
+    check_list(b"length 0", &list);
+    search_list(b"length 0, the lowest address", &list, &web(0));
+    search_list(b"length 0, the highest address", &list, &web(0xffffffff));
+    check_list(
+        b"length 0, a stray bit",
+        &[0x80000000, 0, 0, 0, 0, 65535, 0, 65535, 0, 255],
+    );
+    check_list(
+        b"length 0 to one address",
+        &[0, 0, 0xffffffff, 32, 0, 65535, 0, 65535, 0, 255],
+    );
+}
+
+// A length past 32, and the bit that a length of 31 leaves out.
+pub fn past_length_32() {
+    check_list(b"length 33", &[0, 33, 0, 0, 0, 65535, 0, 65535, 0, 255]);
+    check_list(
+        b"length 31, the last bit set",
+        &[1, 31, 0, 0, 0, 65535, 0, 65535, 0, 255],
+    );
+    check_list(
+        b"length 32, the last bit set",
+        &[1, 32, 0, 0, 0, 65535, 0, 65535, 0, 255],
+    );
+}
+
+// 512 rules: only the last holds protocol 6.
+pub fn rules_512() {
+    let mut list = [0u32; 5120];
+    list[5119] = 255;
+    check_list(b"512 rules", &list);
+    search_list(b"512 rules", &list, &[0, 0, 0, 0, 6]);
+    check_list(b"512 rules but one word", &list[..5119]);
+    list[5118] = 256;
+    check_list(b"512 rules, the last not good", &list);
+    read_list(
+        b"a file of 512 rules, cut after its first line",
+        b"rules\t512\n",
+        &mut list,
+    );
+}
+
+// One rule more.
+pub fn rules_513() {
+    let mut list = [0u32; 5130];
+    list[5129] = 255;
+    check_list(b"513 rules", &list);
+    search_list(b"513 rules", &list, &[0, 0, 0, 0, 6]);
+    check_tree(b"513 rules", &list, &[5, 0, 0], &[]);
+    read_list(
+        b"a file of 513 rules, cut after its first line",
+        b"rules\t513\n",
+        &mut list,
+    );
+}
+
+// 63 cuts above the last leaf.
+pub fn cuts_63() {
+    let nodes = chain(63);
+    check_tree(b"63 cuts", &[], &nodes[0..381], &[]);
+    search_tree(
+        b"63 cuts",
+        &[],
+        &nodes[0..381],
+        &[],
+        &[0xffffffff, 0, 0, 0, 0],
+    );
+}
+
+// One cut more. The search has no such limit.
+pub fn cuts_64() {
+    let nodes = chain(64);
+    check_tree(b"64 cuts", &[], &nodes, &[]);
+    search_tree(b"64 cuts", &[], &nodes, &[], &[0xffffffff, 0, 0, 0, 0]);
+}
+
+// So many cuts, each the right child of the one above, with an empty leaf on its left; then the last leaf.
+fn chain(cuts: usize) -> [u32; 387]
+    requires { ⌜ cuts ≤ 64 ⌝ }
+{
+    let mut nodes = [0u32; 387];
+    nodes[6 * cuts] = 5;
+    let mut i = 0;
+    while i < cuts {
+        nodes = with_cut(nodes, i);
+        i += 1;
+    }
+    nodes
+}
+
+// Cut `i` and the leaf on its left.
+fn with_cut(mut nodes: [u32; 387], i: usize) -> [u32; 387]
+    requires { ⌜ i < 64 ⌝ }
+{
+    nodes[6 * i + 1] = i as u32;
+    nodes[6 * i + 2] = 2 * i as u32 + 2;
+    nodes[6 * i + 3] = 5;
+    nodes
+}

@@ -1,48 +1,15 @@
-//! Times the library's tree check and tree searches beside a plain Rust walk of the same tree, at the largest sizes; and
-//! the writers and readers of both files.
+//! Times the library's tree check and tree searches beside a plain Rust walk of the same tree, at the largest sizes;
+//! and the writers and readers of both files.
 //!
-//! The plain walk trusts the tree: it looks at no node that its header does not need, refuses nothing and counts nothing.
+//! The plain walk trusts the tree: it looks at no node that its header does not need, refuses nothing and counts
+//! nothing.
 
 mod files;
 
 use std::hint::black_box;
 use std::time::{Duration, Instant};
 
-extern "C" {
-    fn wick_tree_check(
-        rules: *const u32,
-        rules_len: u64,
-        nodes: *const u32,
-        nodes_len: u64,
-        pool: *const u32,
-        pool_len: u64,
-        answer: *mut [u64; 8],
-    );
-    fn wick_tree_first(
-        rules: *const u32,
-        rules_len: u64,
-        nodes: *const u32,
-        nodes_len: u64,
-        pool: *const u32,
-        pool_len: u64,
-        header: *const u32,
-        header_len: u64,
-        answer: *mut [u64; 8],
-    );
-    fn wick_tree_all(
-        rules: *const u32,
-        rules_len: u64,
-        nodes: *const u32,
-        nodes_len: u64,
-        pool: *const u32,
-        pool_len: u64,
-        header: *const u32,
-        header_len: u64,
-        out: *mut u32,
-        out_len: u64,
-        answer: *mut [u64; 8],
-    );
-}
+use wickorchard::raw::{wick_tree_all, wick_tree_check, wick_tree_first};
 
 const TURNS: usize = 9;
 const HEADERS: usize = 4_096;

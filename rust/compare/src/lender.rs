@@ -1,6 +1,5 @@
 //! The lender: a program beside this one, built from `lender.c`, that has the arena mapped and makes the calls.
 
-use std::env;
 use std::ffi::OsString;
 use std::fmt::{self, Display, Formatter};
 use std::fs::{self, File};
@@ -8,8 +7,8 @@ use std::io::{self, ErrorKind, Read, Write};
 use std::net::Shutdown;
 use std::os::fd::OwnedFd;
 use std::os::unix::net::UnixStream;
-use std::path::{Path, PathBuf};
-use std::process::{self, Child, Command, ExitStatus};
+use std::path::Path;
+use std::process::{Child, Command, ExitStatus};
 use std::time::Duration;
 
 use crate::abi::Request;
@@ -18,9 +17,6 @@ use crate::mapping::Mapping;
 
 /// How long a reply may take. A call takes far less than a second, under an emulator too.
 const PATIENCE: Duration = Duration::from_secs(60);
-
-/// The folder that the arena's file is made in; where this is not set, it is the system's for temporary files.
-const FOLDER_VARIABLE: &str = "WICKORCHARD_ARENA_FOLDER";
 
 pub struct Lender {
     child: Child,
@@ -38,19 +34,17 @@ pub enum Silence {
     WrongReply { wanted: u64, found: u64 },
 }
 
-/// Makes the arena's file, maps it, and starts the lender with the file's path after the words of its command.
+/// Makes the arena's file at this path, maps it, and starts the lender with the path after the words of its command.
 /// The file is removed as soon as both have it mapped, or something failed.
-pub fn start(command: &[OsString]) -> Result<(Lender, Mapping), String> {
-    let folder = env::var_os(FOLDER_VARIABLE).map_or_else(env::temp_dir, PathBuf::from);
-    let path = folder.join(format!("wickorchard-arena-{}", process::id()));
+pub fn start(command: &[OsString], path: &Path) -> Result<(Lender, Mapping), String> {
     let file = File::options()
         .read(true)
         .write(true)
         .create_new(true)
-        .open(&path)
+        .open(path)
         .map_err(|error| format!("{} cannot be made: {error}", path.display()))?;
-    let started = map_and_start(&file, &path, command);
-    fs::remove_file(&path).map_err(|error| format!("{} cannot be removed: {error}", path.display()))?;
+    let started = map_and_start(&file, path, command);
+    fs::remove_file(path).map_err(|error| format!("{} cannot be removed: {error}", path.display()))?;
     started
 }
 

@@ -99,6 +99,15 @@ pub fn spelt(rule_count: usize, node_count: usize, draws: &mut Draws) -> Policy 
     policy
 }
 
+/// 2,039 cuts of the longest lines, and eight leaves that list 512 of the longest rule numbers.
+pub fn longest() -> Policy {
+    let mut nodes = [4, u32::MAX, 2_046].repeat(2_039);
+    for leaf in 0..8 {
+        nodes.extend([5, 512 * leaf, 512]);
+    }
+    Policy { rules: EVERYTHING.repeat(512), nodes, pool: vec![511; 4_096] }
+}
+
 /// A part of the tree, by the number of its node.
 pub fn part_at(root: &mut Part, node: u64) -> &mut Part {
     let mut here = root;

@@ -50,6 +50,8 @@ pub enum Refusal {
     LineWrong { line: usize },
     /// The text stops before its end line, after so many whole lines.
     TextStops { lines: usize },
+    /// The program's alone: a file is not opened, is not read to its end, or is over 65,536 bytes.
+    FileNotRead,
 }
 
 impl Refusal {
@@ -68,6 +70,7 @@ impl Refusal {
             Refusal::LeafLacksRule { node, rule } => (8, node, rule),
             Refusal::LineWrong { line } => (9, line as u64, 0),
             Refusal::TextStops { lines } => (10, lines as u64, 0),
+            Refusal::FileNotRead => (12, 0, 0),
         }
     }
 }

@@ -13,6 +13,8 @@
 //! - [`rules_write`] and [`rules_read`]: a list as a text file, and back;
 //! - [`tree_write`] and [`tree_read`]: a tree as a text file, and back.
 //!
+//! And [`program`] is the program: from its two files and its standard input, what it writes.
+//!
 //! Besides, [`builder`] makes trees that are right for a list, and [`corners`] judges small trees a second time, by
 //! searching for every header that could get a wrong list.
 
@@ -27,6 +29,7 @@ pub mod line;
 pub mod matching;
 pub mod nodes;
 pub mod parts;
+pub mod program;
 pub mod rule_file;
 pub mod rules;
 pub mod spelt;
@@ -37,6 +40,7 @@ pub mod tree_search;
 
 pub use answer::{Answer, Refusal};
 pub use line::{line_all, line_first};
+pub use program::program;
 pub use rule_file::{rules_read, rules_write};
 pub use rules::rule_check;
 pub use tree_check::tree_check;

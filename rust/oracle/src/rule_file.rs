@@ -2,7 +2,7 @@
 
 use crate::answer::{Answer, Refusal};
 use crate::rules::{is_good, judge_rules, rule_of, MOST_RULES, RULE_WORDS};
-use crate::text::{number, numbers, parts, put_text, text_of, Lines};
+use crate::text::{address, number, numbers, parts, put_text, text_of, Lines};
 
 /// Writes the list as a text: 1, 2, then 4. `put_text` says what a completed writer gives.
 pub fn rules_write(rules: &[u32], text: &mut [u8]) -> Answer {
@@ -68,8 +68,5 @@ fn read_rule(fields: &[&[u8]], rule: u32) -> Option<Vec<u32>> {
 /// The address and the length of `a.b.c.d/len`, whatever the length is.
 fn read_prefix(field: &[u8]) -> Option<Vec<u32>> {
     let [dotted, length] = parts(field, b'/')[..] else { return None };
-    let [a, b, c, d] = numbers(&parts(dotted, b'.'))?[..] else { return None };
-    let octet = |number| u8::try_from(number).ok();
-    let address = u32::from_be_bytes([octet(a)?, octet(b)?, octet(c)?, octet(d)?]);
-    Some(vec![address, number(length)?])
+    Some(vec![address(dotted)?, number(length)?])
 }

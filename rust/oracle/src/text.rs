@@ -19,6 +19,13 @@ pub fn numbers(fields: &[&[u8]]) -> Option<Vec<u32>> {
     fields.iter().map(|field| number(field)).collect()
 }
 
+/// The address that the field is, written a.b.c.d with octets of at most 255. Otherwise None.
+pub fn address(field: &[u8]) -> Option<u32> {
+    let [a, b, c, d] = numbers(&parts(field, b'.'))?[..] else { return None };
+    let octet = |number| u8::try_from(number).ok();
+    Some(u32::from_be_bytes([octet(a)?, octet(b)?, octet(c)?, octet(d)?]))
+}
+
 /// The whole lines of a text, read in order.
 pub struct Lines<'a> {
     whole: Vec<&'a [u8]>,

@@ -3,7 +3,7 @@
 use crate::bench::{Bench, Run};
 use crate::draws::Draws;
 use crate::groups::tree_limits::largest_tree;
-use crate::lists::{self, Manner, EVERYTHING};
+use crate::lists::{self, Manner};
 use crate::text_damages::{afters, any_damage};
 use crate::texts::{self, File, Text};
 use crate::trees::{self, Policy};
@@ -144,7 +144,7 @@ fn damaged_largest(bench: &mut Bench, texts: &[Text; 2]) -> Run {
 
 /// The longest tree file of all, and long texts that are wrong.
 fn long_texts(bench: &mut Bench) -> Run {
-    let longest = longest_tree();
+    let longest = trees::longest();
     let text = Text::of_tree(&longest);
     assert!(text.bytes.len() > 65_536, "the longest file is long");
     let answer = bench.write_tree("the longest tree file", &longest)?;
@@ -166,15 +166,6 @@ fn long_texts(bench: &mut Bench) -> Run {
         }
     }
     Ok(())
-}
-
-/// 2,039 cuts of the longest lines, and eight leaves that list 512 of the longest rule numbers.
-fn longest_tree() -> Policy {
-    let mut nodes = [4, u32::MAX, 2_046].repeat(2_039);
-    for leaf in 0..8 {
-        nodes.extend([5, 512 * leaf, 512]);
-    }
-    Policy { rules: EVERYTHING.repeat(512), nodes, pool: vec![511; 4_096] }
 }
 
 /// The writer is told of more rules than there can be, or of too few for the tree.

@@ -8,6 +8,9 @@ mod file_limits;
 mod file_rooms;
 mod limits;
 mod order;
+mod program_drawn;
+mod program_files;
+mod program_input;
 mod rooms;
 mod text_cases;
 mod text_damage;
@@ -23,6 +26,7 @@ mod tree_order;
 mod tree_words;
 
 use crate::bench::{Bench, Run};
+use crate::trials::Trials;
 
 /// Compares every group in turn: lists, then trees, then files.
 pub fn run(bench: &mut Bench) -> Run {
@@ -47,4 +51,11 @@ pub fn run(bench: &mut Bench) -> Run {
     text_damage::run(bench)?;
     text_cases::run(bench)?;
     text_drawn::run(bench)
+}
+
+/// Compares every group of the program's runs in turn.
+pub fn run_program(trials: &mut Trials) -> Run {
+    program_files::run(trials)?;
+    program_input::run(trials)?;
+    program_drawn::run(trials)
 }

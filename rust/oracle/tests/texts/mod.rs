@@ -1,5 +1,8 @@
 //! A good text with something changed in it, and cut short.
 
+// Each test takes what it needs of it.
+#![allow(dead_code)]
+
 /// What a byte of the output is before the call.
 pub const BYTE_AS_FOUND: u8 = 0xAA;
 

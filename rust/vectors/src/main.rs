@@ -1,0 +1,18 @@
+//! What the crate `vectors` must write: the examples that the scope leaves unmarked, and the limits, answered by the
+//! oracle. The examples are stated here once more, and share nothing with the crate's.
+
+#![forbid(unsafe_code)]
+
+mod limits;
+mod say;
+mod worked;
+
+fn main() {
+    worked::searches();
+    worked::checks();
+    worked::rule_file();
+    worked::tree_file();
+    limits::lengths();
+    limits::rules();
+    limits::cuts();
+}

@@ -1,0 +1,153 @@
+//! The library's calls on lent slices. Each takes any words and bytes; a refused one alters none of them.
+
+use crate::raw::{self, Answer};
+use crate::refusal::Refusal;
+
+/// A tree's words: three for each node, and the entries of all leaves.
+#[derive(Clone, Copy, Debug)]
+pub struct Tree<'a> {
+    pub nodes: &'a [u32],
+    pub pool: &'a [u32],
+}
+
+/// What a tree search found, and what it took.
+#[derive(Clone, Copy, Debug, PartialEq, Eq)]
+pub struct Counted<T> {
+    pub found: T,
+    /// The nodes visited, root and leaf included.
+    pub visited: u64,
+    /// The leaf's entries that were compared with the header.
+    pub compared: u64,
+}
+
+/// What an accepted tree takes at most.
+#[derive(Clone, Copy, Debug, PartialEq, Eq)]
+pub struct Figures {
+    /// The most cuts above a leaf.
+    pub cuts: u64,
+    /// The entries of the longest leaf.
+    pub longest_leaf: u64,
+}
+
+/// What a tree file holds.
+#[derive(Clone, Copy, Debug, PartialEq, Eq)]
+pub struct TreeCounts {
+    /// The rules that the tree is for.
+    pub rules: usize,
+    pub nodes: usize,
+    /// The words of the pool.
+    pub pool: usize,
+}
+
+/// Is the list good? Gives the number of rules: 1, 2.
+pub fn rule_check(rules: &[u32]) -> Result<usize, Refusal> {
+    // SAFETY: here and below, a slice's pointer and length are given together, and a slice that is written to is
+    // borrowed alone.
+    answered(|answer| unsafe { raw::wick_rule_check(rules.as_ptr(), rules.len() as u64, answer) })
+        .map(|[count, ..]| count as usize)
+}
+
+/// Writes the numbers of all rules that match the header to the front of `out`, rising, and gives them: 1, 2, 3, 4.
+pub fn line_all<'a>(rules: &[u32], header: &[u32], out: &'a mut [u32]) -> Result<&'a [u32], Refusal> {
+    let [count, ..] = answered(|answer| unsafe {
+        let (r, h, o) = (rules.len() as u64, header.len() as u64, out.len() as u64);
+        raw::wick_line_all(rules.as_ptr(), r, header.as_ptr(), h, out.as_mut_ptr(), o, answer)
+    })?;
+    Ok(&out[..count as usize])
+}
+
+/// The lowest rule that matches the header: 1, 2, 3.
+pub fn line_first(rules: &[u32], header: &[u32]) -> Result<Option<u32>, Refusal> {
+    let [found, rule, _] = answered(|answer| unsafe {
+        raw::wick_line_first(rules.as_ptr(), rules.len() as u64, header.as_ptr(), header.len() as u64, answer)
+    })?;
+    Ok((found == 1).then_some(rule as u32))
+}
+
+/// Writes the numbers in the header's leaf that match it to the front of `out`, and gives them: 3, 6, 7, 4. The tree
+/// need not be checked, but only one that is accepted gives what the list gives.
+pub fn tree_all<'a>(
+    rules: &[u32],
+    tree: Tree,
+    header: &[u32],
+    out: &'a mut [u32],
+) -> Result<Counted<&'a [u32]>, Refusal> {
+    let Tree { nodes, pool } = tree;
+    let [count, visited, compared] = answered(|answer| unsafe {
+        let (r, n, p) = (rules.len() as u64, nodes.len() as u64, pool.len() as u64);
+        let (h, o) = (header.len() as u64, out.len() as u64);
+        let (rules, nodes, pool, header) = (rules.as_ptr(), nodes.as_ptr(), pool.as_ptr(), header.as_ptr());
+        raw::wick_tree_all(rules, r, nodes, n, pool, p, header, h, out.as_mut_ptr(), o, answer)
+    })?;
+    Ok(Counted { found: &out[..count as usize], visited, compared })
+}
+
+/// The first number in the header's leaf that matches it: 3, 6, 7. As for [`tree_all`], the tree need not be checked.
+pub fn tree_first(rules: &[u32], tree: Tree, header: &[u32]) -> Result<Counted<Option<u32>>, Refusal> {
+    let Tree { nodes, pool } = tree;
+    let [next, visited, compared] = answered(|answer| unsafe {
+        let (r, n, p, h) = (rules.len() as u64, nodes.len() as u64, pool.len() as u64, header.len() as u64);
+        raw::wick_tree_first(rules.as_ptr(), r, nodes.as_ptr(), n, pool.as_ptr(), p, header.as_ptr(), h, answer)
+    })?;
+    // The answer is the rule's number and one, or 0 where none matches.
+    Ok(Counted { found: next.checked_sub(1).map(|rule| rule as u32), visited, compared })
+}
+
+/// May this tree serve for this list? 1, 2, 5, 6, 7, 8.
+pub fn tree_check(rules: &[u32], tree: Tree) -> Result<Figures, Refusal> {
+    let Tree { nodes, pool } = tree;
+    let [cuts, longest_leaf, _] = answered(|answer| unsafe {
+        let (r, n, p) = (rules.len() as u64, nodes.len() as u64, pool.len() as u64);
+        raw::wick_tree_check(rules.as_ptr(), r, nodes.as_ptr(), n, pool.as_ptr(), p, answer)
+    })?;
+    Ok(Figures { cuts, longest_leaf })
+}
+
+/// Writes the list as a rules file to the front of `text`, and gives the file's bytes: 1, 2, 4.
+pub fn rules_write<'a>(rules: &[u32], text: &'a mut [u8]) -> Result<&'a [u8], Refusal> {
+    let [bytes, ..] = answered(|answer| unsafe {
+        raw::wick_rules_write(rules.as_ptr(), rules.len() as u64, text.as_mut_ptr(), text.len() as u64, answer)
+    })?;
+    Ok(&text[..bytes as usize])
+}
+
+/// Reads a rules file, writes ten words for each rule to the front of `rules`, and gives the number of rules: 9 or 10,
+/// 4.
+pub fn rules_read(text: &[u8], rules: &mut [u32]) -> Result<usize, Refusal> {
+    answered(|answer| unsafe {
+        raw::wick_rules_read(text.as_ptr(), text.len() as u64, rules.as_mut_ptr(), rules.len() as u64, answer)
+    })
+    .map(|[count, ..]| count as usize)
+}
+
+/// Writes the tree, which is for so many rules, as a tree file to the front of `text`, and gives the file's bytes: 1,
+/// 5, 6 or 7, 4.
+pub fn tree_write<'a>(rule_count: u64, tree: Tree, text: &'a mut [u8]) -> Result<&'a [u8], Refusal> {
+    let Tree { nodes, pool } = tree;
+    let [bytes, ..] = answered(|answer| unsafe {
+        let (n, p, t) = (nodes.len() as u64, pool.len() as u64, text.len() as u64);
+        raw::wick_tree_write(rule_count, nodes.as_ptr(), n, pool.as_ptr(), p, text.as_mut_ptr(), t, answer)
+    })?;
+    Ok(&text[..bytes as usize])
+}
+
+/// Reads a tree file, writes three words for each node to the front of `nodes` and the leaf entries to the front of
+/// `pool`, and gives how many there are: 9 or 10, 4.
+pub fn tree_read(text: &[u8], nodes: &mut [u32], pool: &mut [u32]) -> Result<TreeCounts, Refusal> {
+    let counts = answered(|answer| unsafe {
+        let (t, n, p) = (text.len() as u64, nodes.len() as u64, pool.len() as u64);
+        raw::wick_tree_read(text.as_ptr(), t, nodes.as_mut_ptr(), n, pool.as_mut_ptr(), p, answer)
+    })?;
+    let [rules, nodes, pool] = counts.map(|count| count as usize);
+    Ok(TreeCounts { rules, nodes, pool })
+}
+
+/// The values of a completed call.
+fn answered(call: impl FnOnce(&mut Answer)) -> Result<[u64; 3], Refusal> {
+    let mut answer = [0; 8];
+    call(&mut answer);
+    match Refusal::of(&answer) {
+        Some(refusal) => Err(refusal),
+        None => Ok([answer[3], answer[4], answer[5]]),
+    }
+}

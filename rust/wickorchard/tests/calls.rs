@@ -1,0 +1,174 @@
+//! Each call on the worked policy and on what it refuses, beside the same call of the oracle.
+
+use oracle::Answer;
+use wickorchard::calls::{self, Counted, Figures, Tree, TreeCounts};
+use wickorchard::{Policy, Refusal};
+
+const RULES_FILE: &[u8] = include_bytes!("../../../examples/worked/rules.txt");
+const TREE_FILE: &[u8] = include_bytes!("../../../examples/worked/tree.txt");
+
+const EVERYTHING: [u32; 10] = [0, 0, 0, 0, 0, 65_535, 0, 65_535, 0, 255];
+const NODES: [u32; 15] = [0, 167_772_159, 2, 5, 0, 1, 0, 184_549_375, 4, 5, 1, 3, 5, 4, 1];
+const POOL: [u32; 5] = [2, 0, 1, 2, 2];
+const HEADERS: [[u32; 5]; 5] = [
+    [0x0A01_0203, 0xC0A8_0001, 40_000, 80, 6],
+    [0x0A01_0203, 0xC0A8_0001, 40_000, 443, 6],
+    [0x09FF_FFFF, 0xC0A8_0001, 40_000, 80, 6],
+    [0x0A01_0203, 0xC0A8_0001, 65_536, 80, 6],
+    [0x0A01_0203, 0xC0A8_0001, 40_000, 80, 256],
+];
+
+fn rules() -> Vec<u32> {
+    let first = [0x0A00_0000, 8, 0, 0, 0, 65_535, 80, 80, 6, 6];
+    let second = [0x0A01_0000, 16, 0, 0, 0, 65_535, 0, 1_023, 6, 6];
+    [first, second, EVERYTHING].concat()
+}
+
+/// Lists that are good, not whole, too long, and not good.
+fn lists() -> Vec<Vec<u32>> {
+    let mut bad = rules();
+    bad[14] = 65_536;
+    vec![rules(), Vec::new(), rules()[1..].to_vec(), EVERYTHING.repeat(513), bad]
+}
+
+/// Trees that are right for the worked policy, and that are refused with 5, 6, 7 and 8.
+fn trees() -> Vec<(Vec<u32>, Vec<u32>)> {
+    let with = |at: usize, word: u32| {
+        let mut nodes = NODES.to_vec();
+        nodes[at] = word;
+        (nodes, POOL.to_vec())
+    };
+    let lacking = vec![0, 167_772_159, 2, 5, 0, 1, 0, 184_549_375, 4, 5, 1, 2, 5, 3, 1];
+    vec![
+        (NODES.to_vec(), POOL.to_vec()),
+        (Vec::new(), Vec::new()),
+        with(0, 6),
+        with(7, 167_772_159),
+        with(10, 9),
+        (lacking, vec![2, 0, 2, 2]),
+    ]
+}
+
+/// The call's answer is the oracle's: refused with the same words, or completed with the same values.
+fn expect<T>(ours: Result<T, Refusal>, oracle: Answer, values: impl FnOnce(T) -> [u64; 3]) {
+    let ours = match ours {
+        Ok(done) => ((0, 0, 0), values(done)),
+        Err(refusal) => (refusal.number_place_extra(), [0; 3]),
+    };
+    assert_eq!(ours, ((oracle.number, oracle.place, oracle.extra), [oracle.a, oracle.b, oracle.c]));
+}
+
+#[test]
+fn the_list_calls() {
+    for rules in lists() {
+        expect(calls::rule_check(&rules), oracle::rule_check(&rules), |count| [count as u64, 0, 0]);
+        for header in HEADERS {
+            for header in [&header[..], &header[..4]] {
+                expect(calls::line_first(&rules, header), oracle::line_first(&rules, header), |first| {
+                    first.map_or([0; 3], |rule| [1, u64::from(rule), 0])
+                });
+                for room in [0, 2, 3, 9] {
+                    let [mut out, mut wanted] = [vec![7; room], vec![7; room]];
+                    let answer = oracle::line_all(&rules, header, &mut wanted);
+                    expect(calls::line_all(&rules, header, &mut out), answer, |found| {
+                        assert_eq!(found, &wanted[..answer.a as usize]);
+                        [found.len() as u64, 0, 0]
+                    });
+                    assert_eq!(out, wanted);
+                }
+            }
+        }
+    }
+}
+
+#[test]
+fn the_tree_calls() {
+    for rules in lists() {
+        for (nodes, pool) in &trees() {
+            let tree = Tree { nodes, pool };
+            expect(calls::tree_check(&rules, tree), oracle::tree_check(&rules, nodes, pool), |figures| {
+                let Figures { cuts, longest_leaf } = figures;
+                [cuts, longest_leaf, 0]
+            });
+            for header in &HEADERS {
+                let answer = oracle::tree_first(&rules, nodes, pool, header);
+                expect(calls::tree_first(&rules, tree, header), answer, |Counted { found, visited, compared }| {
+                    [found.map_or(0, |rule| u64::from(rule) + 1), visited, compared]
+                });
+                for room in [0, 2, 3, 9] {
+                    let [mut out, mut wanted] = [vec![7; room], vec![7; room]];
+                    let answer = oracle::tree_all(&rules, nodes, pool, header, &mut wanted);
+                    expect(calls::tree_all(&rules, tree, header, &mut out), answer, |counted| {
+                        assert_eq!(counted.found, &wanted[..answer.a as usize]);
+                        [counted.found.len() as u64, counted.visited, counted.compared]
+                    });
+                    assert_eq!(out, wanted);
+                }
+            }
+        }
+    }
+}
+
+#[test]
+fn the_writers() {
+    for room in [0, 100, 200] {
+        let [mut text, mut wanted] = [vec![7; room], vec![7; room]];
+        for rules in lists() {
+            let answer = oracle::rules_write(&rules, &mut wanted);
+            expect(calls::rules_write(&rules, &mut text), answer, |bytes| [bytes.len() as u64, 0, 0]);
+            assert_eq!(text, wanted);
+        }
+        for (nodes, pool) in &trees() {
+            for rule_count in [3, 2, 513, u64::MAX] {
+                let answer = oracle::tree_write(rule_count, nodes, pool, &mut wanted);
+                let ours = calls::tree_write(rule_count, Tree { nodes, pool }, &mut text);
+                expect(ours, answer, |bytes| [bytes.len() as u64, 0, 0]);
+                assert_eq!(text, wanted);
+            }
+        }
+    }
+}
+
+#[test]
+fn the_readers() {
+    for text in [RULES_FILE, &RULES_FILE[1..], &RULES_FILE[..RULES_FILE.len() - 1], TREE_FILE, b""] {
+        for room in [0, 29, 30, 40] {
+            let [mut words, mut wanted] = [vec![7; room], vec![7; room]];
+            let answer = oracle::rules_read(text, &mut wanted);
+            expect(calls::rules_read(text, &mut words), answer, |count| [count as u64, 0, 0]);
+            assert_eq!(words, wanted);
+        }
+    }
+    for text in [TREE_FILE, &TREE_FILE[1..], &TREE_FILE[..TREE_FILE.len() - 1], RULES_FILE, b""] {
+        for [node_room, pool_room] in [[0, 0], [14, 5], [15, 4], [15, 5], [20, 9]] {
+            let [mut nodes, mut wanted_nodes] = [vec![7; node_room], vec![7; node_room]];
+            let [mut pool, mut wanted_pool] = [vec![7; pool_room], vec![7; pool_room]];
+            let answer = oracle::tree_read(text, &mut wanted_nodes, &mut wanted_pool);
+            expect(calls::tree_read(text, &mut nodes, &mut pool), answer, |TreeCounts { rules, nodes, pool }| {
+                [rules, nodes, pool].map(|count| count as u64)
+            });
+            assert_eq!((nodes, pool), (wanted_nodes, wanted_pool));
+        }
+    }
+}
+
+#[test]
+fn a_policy_answers_by_its_list_until_a_tree_is_accepted() {
+    assert_eq!(Policy::read(&RULES_FILE[..60]).err(), Some(Refusal::TextStops { lines: 2 }));
+    let mut policy = Policy::read(RULES_FILE).expect("the list is good");
+    assert_eq!(policy.rule_count(), 3);
+    for (tree_file, served) in [
+        (&TREE_FILE[..90], Err(Refusal::TextStops { lines: 6 })),
+        (TREE_FILE, Ok(Figures { cuts: 2, longest_leaf: 3 })),
+        (b"tree\t3\t1\t2\nleaf\t0\t2\t0\t2\nend\t2\n", Err(Refusal::LeafLacksRule { node: 0, rule: 1 })),
+    ] {
+        assert_eq!(policy.read_tree(tree_file), served);
+        assert_eq!(policy.all(&HEADERS[0]), Ok(vec![0, 1, 2]));
+        assert_eq!(policy.all(&HEADERS[1]), Ok(vec![1, 2]));
+        assert_eq!(policy.first(&HEADERS[1]), Ok(Some(1)));
+        assert_eq!(policy.all(&HEADERS[3]), Err(Refusal::HeaderWrong { field: 2 }));
+        assert_eq!(policy.first(&HEADERS[4]), Err(Refusal::HeaderWrong { field: 4 }));
+    }
+    let none = Policy::read(b"rules\t0\nend\t1\n").expect("an empty list is good");
+    assert_eq!((none.all(&HEADERS[0]), none.first(&HEADERS[0])), (Ok(Vec::new()), Ok(None)));
+}

@@ -14,6 +14,5 @@ pub mod Reader
 pub mod Passes
 pub mod ReadAnswers
 pub mod WriteAnswers
-pub mod Lent
 pub mod Unique
 pub mod Calls

@@ -6,5 +6,4 @@ pub mod There
 pub mod Lacks
 pub mod Listing
 pub mod Searches
-pub mod Lent
 pub mod Unique

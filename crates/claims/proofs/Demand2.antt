@@ -1,0 +1,54 @@
+-- Demand 2 holds.
+use Prim.Native.Nat.{ℕ}
+use mathlib.Core.Path.{_≡_}
+use mathlib.Core.List.{List}
+use Rattle.rules.proofs.Meaning.{matches-iff-inside}
+use Rattle.rules.proofs.Listing.{listed-iff-matches, matching-rises, head-is-lowest}
+use Rattle.tree_check.specs.Serves.{Serves}
+use Rattle.tree_check.proofs.Accepts.{accepts-iff-serves}
+use Rattle.tree_check.proofs.Searches.{refuses-none, same-list, same-verdict, same-words}
+use Rattle.text.specs.Text.{good}
+use Rattle.rule_file.proofs.Back.{read-of-written as rules-back}
+use Rattle.rule_file.proofs.Exact.{written-of-read as rules-exact, read-below}
+use Rattle.rule_file.proofs.Cut.{cut-refused as rules-cut}
+use Rattle.tree_file.specs.TreeText.{Tree, tree, treeIn}
+use Rattle.tree_file.proofs.RoundTrips.{read-of-written as tree-back, written-of-read as tree-exact}
+use Rattle.tree_file.proofs.RoundTrips.{spelling-of-read, below-of-read, cut-refused as tree-cut}
+use Rattle.claims.specs.Demand2.{Matching, ByTree, RuleFile, treeWritten, TreeFits, TreeFile}
+
+pub matching-claim : Matching
+matching-claim =
+    record {
+      listed = listed-iff-matches;
+      rising = matching-rises;
+      lowest = λ rs h r rest e q l. head-is-lowest rs h r rest e .none-before q l;
+      box = λ rs r g h. matches-iff-inside rs r g h;
+    }
+
+pub by-tree-claim : (rs nodes pool : List ℕ) (serves : Serves rs nodes pool) → ByTree rs nodes pool serves
+by-tree-claim rs nodes pool s =
+    let ok = accepts-iff-serves rs nodes pool .1 s in
+    record {
+      refuses = same-verdict rs nodes pool ok;
+      leaves = same-words rs nodes pool ok;
+      completes = refuses-none rs nodes pool ok;
+      lists = same-list rs nodes pool ok;
+    }
+
+pub rule-file-claim : RuleFile
+rule-file-claim =
+    record {
+      back = λ ws f. rules-back ws (f .0) (f .1);
+      exact = λ s ws e. let w = rules-exact s ws e in (w .0, (w .1, read-below s ws e));
+      cut = rules-cut;
+    }
+
+tree-exact-claim : (s : List ℕ) (t : Tree) → treeIn s ≡ good t → (treeWritten t ≡ s) × TreeFits t
+tree-exact-claim s (tree n ns es) e =
+    (tree-exact s n ns es e, (spelling-of-read s n ns es e, below-of-read s n ns es e))
+
+tree-back-claim : (t : Tree) → TreeFits t → treeIn (treeWritten t) ≡ good t
+tree-back-claim (tree n ns es) f = tree-back (f .0) (f .1)
+
+pub tree-file-claim : TreeFile
+tree-file-claim = record { back = tree-back-claim; exact = tree-exact-claim; cut = tree-cut }

@@ -1,0 +1,49 @@
+-- The worked policy's rows hold, by computation.
+use mathlib.Core.Path.{refl}
+use Rattle.facts.specs.Below.{allBelow, lowest}
+use Rattle.facts.specs.Lists.{run, keep, has, rises, allUnder}
+use Rattle.refusals.specs.Order.{refuseUnless, roomVerdict, _then_, inTurn, _giving_}
+use Rattle.fields.specs.Boxes.{meets}
+use Rattle.fields.specs.Cuts.{divides, leftOf, rightOf}
+use Rattle.fields.specs.Headers.{fieldVerdict, headerVerdict}
+use Rattle.fields.specs.Prefixes.{span, prefixGood, prefixAgrees, prefixEnds}
+use Rattle.fields.specs.Ranges.{rangeGood, rangeHolds, rangesMeet}
+use Rattle.rules.specs.Good.{good, ruleVerdict, listVerdict}
+use Rattle.rules.specs.Lacking.{lacking, lowestLacking}
+use Rattle.rules.specs.Matching.{matches, matching, ruleBox}
+use Rattle.trees.specs.Words.{entries, sizeVerdict}
+use Rattle.trees.specs.Walk.{sideOf, stepOf, walk, walkOf}
+use Rattle.trees.specs.Search.{leafVerdict, treeVerdict, leafList, treeList, lookedAt}
+use Rattle.trees.specs.TreeAll.{treeAllVerdict, treeAll}
+use Rattle.trees.specs.TreeFirst.{treeFirst}
+use Rattle.trees.specs.Spelt.{leafCount, countsBelow, leafSpelt, nodeVerdict, speltVerdict}
+use Rattle.tree_check.specs.Preorder.{lackOf, leafPart, cutPart, nodePart, partOf}
+use Rattle.tree_check.specs.TreeCheck.{rootPart, checkVerdict, treeCheck}
+use Rattle.claims.specs.Worked.{AllHold, table}
+
+pub worked : AllHold table
+unfolding allBelow lowest run keep has rises allUnder refuseUnless roomVerdict _then_ inTurn _giving_ meets
+    divides leftOf rightOf fieldVerdict headerVerdict span prefixGood prefixAgrees prefixEnds rangeGood
+    rangeHolds rangesMeet good ruleVerdict listVerdict lacking lowestLacking matches matching ruleBox entries
+    sizeVerdict sideOf stepOf walk walkOf leafVerdict treeVerdict leafList treeList lookedAt treeAllVerdict
+    treeAll treeFirst leafCount countsBelow leafSpelt nodeVerdict speltVerdict lackOf leafPart cutPart
+    nodePart partOf rootPart checkVerdict treeCheck
+worked = (
+  (refl, refl, refl, refl),
+  (
+    (refl, refl, refl, refl),
+    (
+      (refl, refl, refl, refl),
+      (
+        (refl, refl, refl, refl),
+        (
+          (refl, refl, refl, refl),
+          (
+            (refl, refl, refl, refl),
+            ((refl, refl, refl, refl), (refl, (refl, (refl, (refl, tt))))),
+          ),
+        ),
+      ),
+    ),
+  ),
+)

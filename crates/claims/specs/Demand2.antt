@@ -1,0 +1,66 @@
+-- Demand 2: what is listed, by the list or by a tree that serves it, and what the two files keep. Statements only.
+use Prim.Native.Nat.{ℕ, _^_, _<_}
+use mathlib.Core.Bool.{true, false}
+use mathlib.Core.Logic.{_↔_}
+use mathlib.Core.Path.{_≡_}
+use mathlib.Core.List.{List, [], _∷_, _++_}
+use lib.ListN.{length}
+use Rattle.facts.specs.Lists.{has, rises}
+use Rattle.refusals.specs.declared.Refusal.the-variants.{TextStops}
+use Rattle.refusals.specs.declared.Verdict.the-variants.{Fine}
+use Rattle.fields.specs.Words.{fieldCount}
+use Rattle.fields.specs.Boxes.{Inside}
+use Rattle.fields.specs.Headers.{Legal}
+use Rattle.rules.specs.Words.{ruleCount}
+use Rattle.rules.specs.Good.{good, listVerdict}
+use Rattle.rules.specs.Matching.{matches, matching, ruleBox}
+use Rattle.rules.specs.LineAll.{allVerdict, lineAllWords}
+use Rattle.trees.specs.Search.{treeVerdict, treeList}
+use Rattle.trees.specs.TreeAll.{treeAllVerdict, treeAllWords}
+use Rattle.tree_check.specs.Serves.{Serves}
+use Rattle.text.specs.Line.{AllBelow}
+use Rattle.text.specs.Text as text
+use Rattle.rule_file.specs.RuleText.{rulesIn, rulesText}
+use Rattle.tree_file.specs.TreeText.{Tree, tree, treeIn}
+use Rattle.tree_file.specs.TreeLines.{treeText, Spelling}
+
+-- a number is listed exactly where it is a rule's and the rule matches; the list rises, so each stands there once, and
+-- its first is the lowest that matches; a good rule matches exactly the headers in its box
+pub record Matching : Type 0 where
+  pub listed :
+      (rs h : List ℕ) (r : ℕ) → (has (matching rs h) r ≡ true) ↔ ((r < ruleCount rs) × (matches rs h r ≡ true))
+  pub rising : (rs h : List ℕ) → rises 0 (matching rs h) ≡ true
+  pub lowest :
+      (rs h : List ℕ) (r : ℕ) (rest : List ℕ) → matching rs h ≡ r ∷ rest → (q : ℕ) → q < r → matches rs h q ≡ false
+  pub box :
+      (rs : List ℕ) (r : ℕ) → good rs r ≡ true → (h : List ℕ) →
+      (matches rs h r ≡ true) ↔ Inside fieldCount (ruleBox rs r) h
+
+-- by a tree that serves the list, any header and room are refused as by the list and leave the same words; a legal
+-- header completes both searches, and the matches of its leaf, of which they give all or the first, are the list's
+pub record ByTree (rs nodes pool : List ℕ) (serves : Serves rs nodes pool) : Type 0 where
+  pub refuses : (h : List ℕ) (room : ℕ) → treeAllVerdict rs nodes pool h room ≡ allVerdict rs h room
+  pub leaves : (h found : List ℕ) → treeAllWords rs nodes pool h found ≡ lineAllWords rs h found
+  pub completes : (h : List ℕ) → Legal h → treeVerdict rs nodes pool h ≡ Fine
+  pub lists : (h : List ℕ) → Legal h → treeList rs nodes pool h ≡ matching rs h
+
+-- what is written of fit words reads back as those; what reads well is the text that is written of it, and fit; and cut
+-- before its end it is refused with 10 and the number of whole lines left
+pub record File {W : Type 0} (read : List ℕ → text.Reading W) (write : W → List ℕ) (Fit : W → Type 0) : Type 0 where
+  pub back : (w : W) → Fit w → read (write w) ≡ text.good w
+  pub exact : (s : List ℕ) (w : W) → read s ≡ text.good w → (write w ≡ s) × Fit w
+  pub cut :
+      (p q : List ℕ) (w : W) → read (p ++ q) ≡ text.good w → (q ≡ [] → ⊥) →
+      read p ≡ text.refused (TextStops (length (text.linesOf (text.split p))))
+
+abbrev pub RuleFile : Type 0
+RuleFile = File rulesIn rulesText (λ ws. (listVerdict ws ≡ Fine) × AllBelow (2 ^ 32) ws)
+
+abbrev pub treeWritten : Tree → List ℕ
+treeWritten (tree n nodes pool) = treeText n nodes pool
+
+abbrev pub TreeFits : Tree → Type 0
+TreeFits (tree n nodes pool) = Spelling n nodes pool × AllBelow (2 ^ 32) nodes
+
+abbrev pub TreeFile : Type 0
+TreeFile = File treeIn treeWritten TreeFits

@@ -1,0 +1,6 @@
+-- What a reader may conclude: the scope's three demands, its worked policy, and what goes beyond. Statements only.
+pub mod Demand1
+pub mod Demand2
+pub mod Demand3
+pub mod Worked
+pub mod Beyond

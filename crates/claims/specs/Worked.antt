@@ -1,0 +1,59 @@
+-- The marked rows of the scope's worked policy, as one table under one statement. Destination is 192.168.0.1 and source
+-- port 40,000 throughout. Statements only.
+--   search h ms n c f a    header h: the list ms, by the list and by the tree; n nodes, c compared; first f after a
+--   check rs ns es p       the tree check of nodes ns and pool es for the list rs says p
+use Prim.Native.Nat.{ℕ, _+_, _*_}
+use mathlib.Core.Path.{_≡_}
+use mathlib.Core.List.{List, [], _∷_}
+use lib.ListN.{length}
+use Rattle.refusals.specs.Paper.{Paper, refusal, success}
+use Rattle.rules.specs.Matching.{matching}
+use Rattle.trees.specs.Search.{treeList}
+use Rattle.trees.specs.TreeAll.{treeAll}
+use Rattle.trees.specs.TreeFirst.{treeFirst}
+use Rattle.tree_check.specs.TreeCheck.{treeCheck}
+
+abbrev pub from : ℕ → ℕ → ℕ → ℕ → ℕ → ℕ → List ℕ
+from a b c d port protocol = (((a * 256 + b) * 256 + c) * 256 + d) ∷ 3232235521 ∷ 40000 ∷ port ∷ protocol ∷ []
+
+-- from 10.0.0.0/8 to port 80, from 10.1.0.0/16 to ports 0 to 1,023, each with protocol 6; everything
+abbrev pub rules : List ℕ
+rules =
+    167772160 ∷ 8 ∷ 0 ∷ 0 ∷ 0 ∷ 65535 ∷ 80 ∷ 80 ∷ 6 ∷ 6 ∷ 167837696 ∷ 16 ∷ 0 ∷ 0 ∷ 0 ∷ 65535 ∷ 0 ∷ 1023 ∷ 6 ∷ 6 ∷
+    0 ∷ 0 ∷ 0 ∷ 0 ∷ 0 ∷ 65535 ∷ 0 ∷ 65535 ∷ 0 ∷ 255 ∷ []
+
+-- two cuts of the source address, the second with the value v, and three leaves, the second with the count k
+abbrev pub nodes : ℕ → ℕ → List ℕ
+nodes v k = 0 ∷ 167772159 ∷ 2 ∷ 5 ∷ 0 ∷ 1 ∷ 0 ∷ v ∷ 4 ∷ 5 ∷ 1 ∷ k ∷ 5 ∷ (1 + k) ∷ 1 ∷ []
+
+abbrev pub tree : List ℕ
+tree = nodes 184549375 3
+
+abbrev pub pool : List ℕ
+pool = 2 ∷ 0 ∷ 1 ∷ 2 ∷ 2 ∷ []
+
+pub data Row : Type 0 where
+  search : List ℕ → List ℕ → ℕ → ℕ → ℕ → ℕ → Row
+  check : List ℕ → List ℕ → List ℕ → Paper → Row
+
+abbrev pub AllHold : List Row → Type 0
+AllHold [] = Unit {0}
+AllHold (search h ms n c f a ∷ rows) =
+    ((matching rules h ≡ ms) × (treeList rules tree pool h ≡ ms) ×
+    (treeAll rules tree pool h 3 ≡ success (length ms ∷ n ∷ c ∷ [])) ×
+    (treeFirst rules tree pool h ≡ success ((f + 1) ∷ n ∷ a ∷ []))) × AllHold rows
+AllHold (check rs ns es p ∷ rows) = (treeCheck rs ns es ≡ p) × AllHold rows
+
+abbrev pub table : List Row
+table =
+    search (from 10 1 2 3 80 6) (0 ∷ 1 ∷ 2 ∷ []) 3 3 0 1 ∷
+    search (from 10 2 0 1 80 6) (0 ∷ 2 ∷ []) 3 3 0 1 ∷
+    search (from 10 1 2 3 443 6) (1 ∷ 2 ∷ []) 3 3 1 2 ∷
+    search (from 10 1 2 3 80 17) (2 ∷ []) 3 3 2 3 ∷
+    search (from 9 255 255 255 80 6) (2 ∷ []) 2 1 2 1 ∷
+    search (from 10 255 255 255 80 6) (0 ∷ 2 ∷ []) 3 3 0 1 ∷
+    search (from 11 0 0 0 80 6) (2 ∷ []) 3 1 2 1 ∷
+    check rules tree pool (success (2 ∷ 3 ∷ [])) ∷
+    check rules (nodes 184549375 2) (2 ∷ 0 ∷ 2 ∷ 2 ∷ []) (refusal 8 3 1) ∷
+    check rules (nodes 167772159 3) pool (refusal 6 2 0) ∷
+    check [] (5 ∷ 0 ∷ 0 ∷ []) [] (success (0 ∷ 0 ∷ [])) ∷ []

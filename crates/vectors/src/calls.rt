@@ -22,7 +22,7 @@ use trees::search::tree_first;
 pub const AS_FOUND: u32 = 7;
 
 // The number of rules.
-pub fn check_list(example: &[u8], list: &[u32]) {
+pub(crate) fn check_list(example: &[u8], list: &[u32]) {
     begin(example, b"rule_check");
     match rule_check(list) {
         Checked::Refused(why) => refused(why),
@@ -35,7 +35,7 @@ pub fn check_list(example: &[u8], list: &[u32]) {
 }
 
 // The most cuts above a leaf, and the longest leaf.
-pub fn check_tree(example: &[u8], list: &[u32], nodes: &[u32], pool: &[u32]) {
+pub(crate) fn check_tree(example: &[u8], list: &[u32], nodes: &[u32], pool: &[u32]) {
     begin(example, b"tree_check");
     match tree_check(list, nodes, pool) {
         TreeAnswer::Refused(why) => refused(why),
@@ -49,7 +49,7 @@ pub fn check_tree(example: &[u8], list: &[u32], nodes: &[u32], pool: &[u32]) {
 }
 
 // Both line searches, with room for three numbers.
-pub fn search_list(example: &[u8], list: &[u32], header: &[u32]) {
+pub(crate) fn search_list(example: &[u8], list: &[u32], header: &[u32]) {
     let mut out = [AS_FOUND; 3];
     let said = line_all(list, header, &mut out);
     say_listed(example, said, out);
@@ -70,7 +70,7 @@ pub fn search_list(example: &[u8], list: &[u32], header: &[u32]) {
 }
 
 // The numbers that a line search found, of which there are so many.
-pub fn say_listed(example: &[u8], said: Listed, out: [u32; 3]) {
+pub(crate) fn say_listed(example: &[u8], said: Listed, out: [u32; 3]) {
     begin(example, b"line_all");
     match said {
         Listed::Refused(why) => refused(why),
@@ -84,7 +84,13 @@ pub fn say_listed(example: &[u8], said: Listed, out: [u32; 3]) {
 }
 
 // Both tree searches, with room for three numbers.
-pub fn search_tree(example: &[u8], list: &[u32], nodes: &[u32], pool: &[u32], header: &[u32]) {
+pub(crate) fn search_tree(
+    example: &[u8],
+    list: &[u32],
+    nodes: &[u32],
+    pool: &[u32],
+    header: &[u32],
+) {
     let mut out = [AS_FOUND; 3];
     let said = tree_all(list, nodes, pool, header, &mut out);
     say_tree_listed(example, said, out);
@@ -92,7 +98,7 @@ pub fn search_tree(example: &[u8], list: &[u32], nodes: &[u32], pool: &[u32], he
 }
 
 // The numbers that a tree search found, of which there are so many; the nodes visited, and the entries compared.
-pub fn say_tree_listed(example: &[u8], said: TreeListed, out: [u32; 3]) {
+pub(crate) fn say_tree_listed(example: &[u8], said: TreeListed, out: [u32; 3]) {
     begin(example, b"tree_all");
     match said {
         TreeListed::Refused(why) => refused(why),

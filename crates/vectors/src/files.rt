@@ -13,7 +13,7 @@ use tree_file::write::Written as TreeWritten;
 use tree_file::write::write_tree;
 
 // The number of rules of a text.
-pub fn read_list(example: &[u8], text: &[u8], list: &mut [u32]) {
+pub(crate) fn read_list(example: &[u8], text: &[u8], list: &mut [u32]) {
     begin(example, b"read_rules");
     match read_rules(text, list) {
         ListRead::Refused(why) => refused(why),
@@ -26,7 +26,7 @@ pub fn read_list(example: &[u8], text: &[u8], list: &mut [u32]) {
 }
 
 // The bytes of a list's text.
-pub fn write_list(example: &[u8], list: &[u32], text: &mut [u8]) {
+pub(crate) fn write_list(example: &[u8], list: &[u32], text: &mut [u8]) {
     begin(example, b"write_rules");
     match write_rules(list, text) {
         ListWritten::Refused(why) => refused(why),
@@ -39,7 +39,7 @@ pub fn write_list(example: &[u8], list: &[u32], text: &mut [u8]) {
 }
 
 // The numbers of rules, nodes and pool words of a text.
-pub fn read_nodes(example: &[u8], text: &[u8], nodes: &mut [u32], pool: &mut [u32]) {
+pub(crate) fn read_nodes(example: &[u8], text: &[u8], nodes: &mut [u32], pool: &mut [u32]) {
     begin(example, b"read_tree");
     match read_tree(text, nodes, pool) {
         TreeRead::Refused(why) => refused(why),
@@ -54,7 +54,13 @@ pub fn read_nodes(example: &[u8], text: &[u8], nodes: &mut [u32], pool: &mut [u3
 }
 
 // The bytes of a tree's text, there being so many rules.
-pub fn write_nodes(example: &[u8], rules: usize, nodes: &[u32], pool: &[u32], text: &mut [u8]) {
+pub(crate) fn write_nodes(
+    example: &[u8],
+    rules: usize,
+    nodes: &[u32],
+    pool: &[u32],
+    text: &mut [u8],
+) {
     begin(example, b"write_tree");
     match write_tree(rules, nodes, pool, text) {
         TreeWritten::Refused(why) => refused(why),

@@ -8,7 +8,7 @@ use crate::policy::web;
 ghost use Prim.Native.Nat.{_≤_, _<_};
 
 // One address, 10.1.2.3/32. The trees cut it out: 167838210 is the address below it.
-pub fn length_32() {
+pub(crate) fn length_32() {
     let list = [0x0a010203, 32, 0, 0, 0, 65535, 0, 65535, 0, 255];
     check_list(b"length 32", &list);
     search_list(b"length 32, that address", &list, &web(0x0a010203));
@@ -21,7 +21,7 @@ pub fn length_32() {
 }
 
 // Length 0 agrees with everything.
-pub fn length_0() {
+pub(crate) fn length_0() {
     let list = [0, 0, 0, 0, 0, 65535, 0, 65535, 0, 255];
     check_list(b"length 0", &list);
     search_list(b"length 0, the lowest address", &list, &web(0));
@@ -37,7 +37,7 @@ pub fn length_0() {
 }
 
 // A length past 32, and the bit that a length of 31 leaves out.
-pub fn past_length_32() {
+pub(crate) fn past_length_32() {
     check_list(b"length 33", &[0, 33, 0, 0, 0, 65535, 0, 65535, 0, 255]);
     check_list(
         b"length 31, the last bit set",
@@ -50,7 +50,7 @@ pub fn past_length_32() {
 }
 
 // 512 rules: only the last holds protocol 6.
-pub fn rules_512() {
+pub(crate) fn rules_512() {
     let mut list = [0u32; 5120];
     list[5119] = 255;
     check_list(b"512 rules", &list);
@@ -66,7 +66,7 @@ pub fn rules_512() {
 }
 
 // One rule more.
-pub fn rules_513() {
+pub(crate) fn rules_513() {
     let mut list = [0u32; 5130];
     list[5129] = 255;
     check_list(b"513 rules", &list);
@@ -80,7 +80,7 @@ pub fn rules_513() {
 }
 
 // 63 cuts above the last leaf.
-pub fn cuts_63() {
+pub(crate) fn cuts_63() {
     let nodes = chain(63);
     check_tree(b"63 cuts", &[], &nodes[0..381], &[]);
     search_tree(
@@ -93,7 +93,7 @@ pub fn cuts_63() {
 }
 
 // One cut more. The search has no such limit.
-pub fn cuts_64() {
+pub(crate) fn cuts_64() {
     let nodes = chain(64);
     check_tree(b"64 cuts", &[], &nodes, &[]);
     search_tree(b"64 cuts", &[], &nodes, &[], &[0xffffffff, 0, 0, 0, 0]);

@@ -41,11 +41,11 @@ pub const NODES: [u32; 15] = [0, 167772159, 2, 5, 0, 1, 0, 184549375, 4, 5, 1, 3
 pub const POOL: [u32; 5] = [2, 0, 1, 2, 2];
 
 // A header from this source to 192.168.0.1, source port 40,000.
-pub fn header(source: u32, port: u32, protocol: u32) -> [u32; 5] {
+pub(crate) fn header(source: u32, port: u32, protocol: u32) -> [u32; 5] {
     [source, 0xc0a80001, 40000, port, protocol]
 }
 
 // One to port 80 over protocol 6.
-pub fn web(source: u32) -> [u32; 5] {
+pub(crate) fn web(source: u32) -> [u32; 5] {
     header(source, 80, 6)
 }

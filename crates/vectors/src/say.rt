@@ -6,32 +6,32 @@ use refusals::number_of;
 use refusals::place_of;
 
 // The example and the call.
-pub fn begin(example: &[u8], call: &[u8]) {
+pub(crate) fn begin(example: &[u8], call: &[u8]) {
     io::write_all(STDOUT_FILENO, example);
     word(call);
 }
 
 // A word of its own.
-pub fn word(text: &[u8]) {
+pub(crate) fn word(text: &[u8]) {
     io::write_all(STDOUT_FILENO, b"\t");
     io::write_all(STDOUT_FILENO, text);
 }
 
 // A number.
-pub fn value(n: u64) {
+pub(crate) fn value(n: u64) {
     io::write_all(STDOUT_FILENO, b"\t");
     io::print_decimal(STDOUT_FILENO, n);
 }
 
 // The number, place and extra of a refusal.
-pub fn refused(why: Refusal) {
+pub(crate) fn refused(why: Refusal) {
     value(number_of(why));
     value(place_of(why));
     value(extra_of(why));
 }
 
 // Lent words after the call.
-pub fn words(out: [u32; 3]) {
+pub(crate) fn words(out: [u32; 3]) {
     word(b":");
     value(wide(out[0]));
     value(wide(out[1]));
@@ -43,6 +43,6 @@ fn wide(n: u32) -> u64 {
 }
 
 // The end of the line.
-pub fn end() {
+pub(crate) fn end() {
     io::write_all(STDOUT_FILENO, b"\n");
 }

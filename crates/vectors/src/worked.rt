@@ -20,7 +20,7 @@ use rules::line::line_all;
 use trees::search::tree_all;
 
 // The headers of the policy, by the list and by the tree.
-pub fn headers() {
+pub(crate) fn headers() {
     search(b"10.1.2.3 port 80 protocol 6", &web(0x0a010203));
     search(b"10.2.0.1 port 80 protocol 6", &web(0x0a020001));
     search(b"10.1.2.3 port 443 protocol 6", &header(0x0a010203, 443, 6));
@@ -31,7 +31,7 @@ pub fn headers() {
 }
 
 // Headers that are not legal.
-pub fn refused_headers() {
+pub(crate) fn refused_headers() {
     search(b"protocol 256", &header(0x0a010203, 80, 256));
     search(b"port 65536", &header(0x0a010203, 65536, 6));
     search(
@@ -50,7 +50,7 @@ fn search(example: &[u8], words: &[u32]) {
 }
 
 // Room for two numbers, where three match.
-pub fn short_room() {
+pub(crate) fn short_room() {
     let words = web(0x0a010203);
     let mut out = [AS_FOUND; 3];
     let listed = line_all(&RULES, &words, &mut out[..2]);
@@ -61,7 +61,7 @@ pub fn short_room() {
 }
 
 // The tree, and trees that are not accepted for the list.
-pub fn checks() {
+pub(crate) fn checks() {
     check_list(b"the worked list", &RULES);
     check_tree(b"the worked tree", &RULES, &NODES, &POOL);
     let lacking = [0, 167772159, 2, 5, 0, 1, 0, 184549375, 4, 5, 1, 2, 5, 3, 1];
@@ -77,7 +77,7 @@ pub fn checks() {
 }
 
 // The list's file, written with exact room, and read.
-pub fn rule_files() {
+pub(crate) fn rule_files() {
     let mut text = [0u8; 157];
     write_list(b"the list's file", &RULES, &mut text);
     io::write_all(STDOUT_FILENO, &text);
@@ -111,7 +111,7 @@ fn short_rule_files(text: [u8; 157]) {
 }
 
 // The tree's file, written with exact room, and read.
-pub fn tree_files() {
+pub(crate) fn tree_files() {
     let mut text = [0u8; 94];
     write_nodes(b"the tree's file", 3, &NODES, &POOL, &mut text);
     io::write_all(STDOUT_FILENO, &text);

@@ -38,7 +38,8 @@ module _ (f g : List ℕ → List ℕ) (same : (h : List ℕ) → f h ≡ g h) w
   text-alike : (x : Text) → onText f 0 x ≡ onText g 0 x
   text-alike (whole ls t) = replies-alike 0 ls t
 
-  input-alike : (s : List ℕ) → inputReplies f s ≡ inputReplies g s
+  -- a whole input gets the same replies
+  pub input-alike : (s : List ℕ) → inputReplies f s ≡ inputReplies g s
   unfolding inputReplies
   input-alike s = text-alike (split s)
 

@@ -55,7 +55,7 @@ module _ {bs : List ℕ} (few : length bs < 2 ^ 64) where
         leaves = put ∙ sym (leaving-fine (bs ++ drop (length bs) before) before v);
       }
 
--- nothing is said in no time
+-- saying no bytes changes nothing
 pub said-nothing : (before : List ℕ) → Said [] before (Written 0) before
 unfolding written
 said-nothing before =

@@ -1,5 +1,4 @@
--- No reply is longer than so many bytes: a buffer of that room never holds the input up.
---   mostReply    the most bytes of a reply: `hit`, a count, 512 numbers of at most three digits, and the newline
+-- No reply by a good list is longer than `mostReply`: a buffer of that room never holds the input up.
 use Prim.Native.Nat.{ℕ, _+_, _^_, _≤_, _<_}
 use native.Mathlib.Omega.{arith}
 use mathlib.Core.Bool.{Bool, true, false}
@@ -36,14 +35,11 @@ use Rattle.text.proofs.Below.{below-of}
 use Rattle.text.proofs.Sizes.{fields-few}
 use Rattle.console.specs.declared.gather.Gathering.{Gathering}
 use Rattle.console.specs.Heads.{mostBytes, headIn}
-use Rattle.console.specs.Lines.{refusedLine, hitLine}
+use Rattle.console.specs.Lines.{refusedLine, hitLine, mostReply}
 use Rattle.console.specs.Replies.{searchVerdict, searchList, answerOf, answerTo, onHead, lineReply}
 use Rattle.console.specs.Gathered.{replyAt, said}
 use Rattle.console.specs.Feeding.{takenOf}
 use Rattle.console.proofs.Saying.{refused-few}
-
-abbrev pub mostReply : ℕ
-mostReply = 2056
 
 -- ---- the line of a hit
 

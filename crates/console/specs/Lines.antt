@@ -1,6 +1,7 @@
 -- The lines that the program writes, and what a call that writes some bytes promises. Definitions only.
 --   refusedLine why    `refused`, then number, place and extra
 --   hitLine ms         `hit`, then how many numbers there are, then the numbers ms
+--   mostReply          the most bytes of a reply by a good list: `hit`, a count, 512 numbers of at most three digits
 --   paper              an answer on paper: the bytes written
 --   Said bs before r after    the promise: the bytes bs are in front of the lent ones, the rest is as found, and r says
 --                      how many they are; 4 where the room is less than that, and the lent bytes are as found
@@ -23,6 +24,9 @@ refusedLine why = printLine refusedWord threeTabs (numberOf why ∷ placeOf why 
 
 unfoldable pub hitLine : List ℕ → List ℕ
 hitLine ms = printLine hitWord (replicate (length ms + 1) tab) (length ms ∷ ms) ++ (newline ∷ [])
+
+abbrev pub mostReply : ℕ
+mostReply = 2056
 
 abbrev pub paper : Replied → Paper
 paper (Refused why) = onPaper why

@@ -1,4 +1,5 @@
--- The laws of the program: what a read says, lengths, and which tree may serve.
+-- The laws of the program: what a read says, read after read, what stands in front, and what a piece of input leaves.
 pub mod Reading
-pub mod Within
-pub mod Taking
+pub mod Loading
+pub mod Standing
+pub mod Turning

@@ -14,8 +14,7 @@ use Rattle.io.specs.Counts.{clamped}
 use Rattle.io.proofs.Counting.{counts}
 use Rattle.wickorchard.specs.declared.load.Got.{Got}
 use Rattle.wickorchard.specs.declared.load.Got.the-variants.{Failed, Ended, Bytes}
-use Rattle.wickorchard.specs.Reads.{onCount, gotOf}
-use Rattle.wickorchard.specs.Lent.{Gets}
+use Rattle.wickorchard.specs.Reads.{onCount, gotOf, Gets}
 
 -- a negative answer is a failure
 pub failed-got : (z : ℤ) (n : ℕ) → ltZ z (pos 0) ≡ true → Failed ≡ gotOf z n

@@ -1,5 +1,6 @@
--- What the program's contracts cite: what a read says, that what was read stands within what was lent, and which tree
--- may serve.
+-- What the program's own functions promise and ask for: what a read says, what a file is, what is handed from one
+-- function to the next, and what a piece of input leaves.
 pub mod Reads
-pub mod Policy
-pub mod Lent
+pub mod Files
+pub mod Handed
+pub mod Turns

@@ -1,14 +1,10 @@
 // A file into the buffer: whole, or not at all.
+use policy::file::File;
+ghost use Prim.Native.Nat.{_^_, _<_};
 ghost use mathlib.Core.Path.{_≡_};
 ghost use lib.ListN.{length};
-ghost use Rattle.wickorchard.specs.Reads.{gotOf};
-ghost use Rattle.wickorchard.specs.Lent.{Holds, Gets};
-
-// What a file gave: it could not be read to its end, or is longer than the buffer; or its bytes stand in front.
-pub enum File {
-    NotRead,
-    Bytes { count: usize },
-}
+ghost use Rattle.wickorchard.specs.Reads.{gotOf, Gets, GetsOne};
+ghost use Rattle.wickorchard.specs.Files.{Fits, noReads, nextReads, moreReads, fileOf};
 
 // What one read gave. A read that fails is never taken for the end.
 pub enum Got {
@@ -17,43 +13,100 @@ pub enum Got {
     Bytes { count: usize },
 }
 
+// The reads of a file so far: how many bytes stand in front of the buffer, and what the last read gave.
+pub struct Reads {
+    pub done: usize,
+    pub last: Got,
+}
+
 // Reads the file at `path` to its end, and closes it.
 pub(crate) fn load(path: &[u8], buffer: &mut [u8]) -> File
-    ensures { λ r. ⌜ Holds (now (buffer .exit)) r ⌝ }
+    requires { ⌜ length (now buffer) < 2 ^ 63 ⌝ }
 {
     let fd = os::open_read(path);
     if fd < 0 {
         return File::NotRead;
     }
-    let file = read_whole(fd, buffer);
+    let reads = read_on(fd, buffer);
     libc::close(fd);
-    file
+    reads.file()
 }
 
-// Reads to the end of the file. A short read is not the end; a full buffer is the whole file only if nothing follows.
-fn read_whole(fd: i32, buffer: &mut [u8]) -> File
-    ensures { λ r. ⌜ Holds (now (buffer .exit)) r ⌝ }
+// Reads until a read gives no more bytes, or the buffer is full. A short read is not the end; and of a full buffer one
+// more read says whether anything follows.
+fn read_on(fd: i32, buffer: &mut [u8]) -> Reads
+    requires { ⌜ length (now buffer) < 2 ^ 63 ⌝ }
 {
+    let mut reads = Reads::start();
     let mut done = 0;
-    while done < buffer.len() {
-        match read_some(fd, &mut buffer[done..]) {
-            Got::Failed => return File::NotRead,
-            Got::Ended => return File::Bytes { count: done },
-            Got::Bytes { count } => {
-                done += count;
-            }
+    while done < buffer.len() && reads.more() {
+        reads = reads.next(read_some(fd, &mut buffer[done..]));
+        done = reads.done;
+    }
+    if reads.more() {
+        reads = reads.next(read_next(fd));
+    }
+    reads
+}
+
+// One read of a byte that may follow.
+fn read_next(fd: i32) -> Got
+    ensures { λ r. ⌜ GetsOne r ⌝ }
+{
+    let mut next = [0u8; 1];
+    read_some(fd, &mut next)
+}
+
+impl Reads {
+    // Before the first read.
+    fn start() -> Reads
+        ensures { λ r. ⌜ r ≡ noReads ⌝ }
+    {
+        Reads {
+            done: 0,
+            last: Got::Bytes { count: 0 },
         }
     }
-    if at_end(fd) {
-        return File::Bytes { count: done };
-    }
-    File::NotRead
-}
 
-// Whether nothing follows in the file.
-fn at_end(fd: i32) -> bool {
-    let mut next = [0u8; 1];
-    libc::read(fd, &mut next) == 0
+    // After one read more.
+    fn next(self, got: Got) -> Reads
+        requires { ⌜ Fits (self .done) got ⌝ }
+        ensures { λ r. ⌜ r ≡ nextReads self got ⌝ }
+    {
+        let done = self.done;
+        match got {
+            Got::Failed => Reads { done, last: got },
+            Got::Ended => Reads { done, last: got },
+            Got::Bytes { count } => Reads {
+                done: done + count,
+                last: got,
+            },
+        }
+    }
+
+    // Whether more may follow: the last read gave bytes.
+    fn more(self) -> bool
+        ensures { λ r. ⌜ r ≡ moreReads self ⌝ }
+    {
+        let last = self.last;
+        match last {
+            Got::Failed => false,
+            Got::Ended => false,
+            Got::Bytes { count: _ } => true,
+        }
+    }
+
+    // What the file is: whole only where the last read gave the end. Bytes that follow a full buffer are too many.
+    fn file(self) -> File
+        ensures { λ r. ⌜ r ≡ fileOf self ⌝ }
+    {
+        let last = self.last;
+        match last {
+            Got::Failed => File::NotRead,
+            Got::Ended => File::Bytes { count: self.done },
+            Got::Bytes { count: _ } => File::NotRead,
+        }
+    }
 }
 
 // One read, from the front of `part` on.

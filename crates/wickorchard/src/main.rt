@@ -1,33 +1,40 @@
 // The program. It reads the policy in the folder where it is started, `rules.txt` and `tree.txt`, and answers the lines
 // of standard input on standard output. What it answers is settled in proved libraries; here bytes are moved.
 //   load     a file into the buffer, whole or not at all
-//   policy   the list and the tree of the two files
 //   serve    the lines of standard input, answered
 //   out      standard output
 mod load;
 mod out;
-mod policy;
 mod serve;
 
-use out::say_refused;
-use policy::Listed;
-use policy::Taken;
-use policy::load_rules;
-use policy::load_tree;
+use load::load;
+use out::say_verdict;
+use policy::list::Listed;
+use policy::list::take_list;
+use policy::tree::take_tree;
+use refusals::Verdict;
 use rules::words::MOST_RULES;
 use rules::words::RULE_WORDS;
 use serve::serve;
 use trees::words::MOST_NODES;
 use trees::words::MOST_POOL;
 use trees::words::NODE_WORDS;
+ghost use Prim.Native.Nat.{_^_, _<_};
+ghost use lib.ListN.{length};
+ghost use Rattle.wickorchard.specs.Handed.{IsList};
 
-// The text of each file is read into one buffer, which is cleared for it.
+const RULES_FILE: [u8; 9] = *b"rules.txt";
+
+const TREE_FILE: [u8; 8] = *b"tree.txt";
+
+// The text of each file is read into one buffer, which is cleared for it. A refused list ends the program.
 fn main() {
     let mut buffer = [0u8; 65536];
     let mut rules = [0u32; MOST_RULES * RULE_WORDS];
-    match load_rules(&mut buffer, &mut rules) {
+    let file = load(&RULES_FILE, &mut buffer);
+    match take_list(file, &buffer, &mut rules) {
         Listed::Refused(why) => {
-            say_refused(why);
+            say_verdict(Verdict::Refused(why));
         }
         Listed::Words { words } => {
             buffer = [0u8; 65536];
@@ -37,15 +44,18 @@ fn main() {
 }
 
 // Answers by the tree where its file is accepted. Where it is refused, that is said, and the list answers.
-fn answer(buffer: &mut [u8], rules: &[u32]) {
+fn answer(buffer: &mut [u8], rules: &[u32])
+    requires { ⌜ IsList (now rules) ⌝ }
+    requires { ⌜ length (now buffer) < 2 ^ 63 ⌝ }
+{
     let mut nodes = [0u32; MOST_NODES * NODE_WORDS];
     let mut pool = [0u32; MOST_POOL];
-    match load_tree(buffer, rules, &mut nodes, &mut pool) {
-        Taken::Refused(why) => {
-            if say_refused(why) {
-                serve(rules, &nodes[..0], &pool[..0], false);
-            }
-        }
-        Taken::Accepted { nodes: n, pool: p } => serve(rules, &nodes[..n], &pool[..p], true),
-    }
+    let file = load(&TREE_FILE, buffer);
+    let serving = take_tree(file, buffer, rules, &mut nodes, &mut pool);
+    let refused = serving.refused;
+    let accepted = serving.accepted;
+    let n = serving.nodes;
+    let p = serving.pool;
+    let told = say_verdict(refused);
+    serve(rules, &nodes[..n], &pool[..p], accepted, told);
 }

@@ -1,25 +1,51 @@
-// Standard output.
+// Standard output. Each function that writes is told what is due, and must be handed exactly that.
+use crate::serve::Turn;
+use console::feed::last_reply;
+use console::gather::Gathering;
 use console::say::Replied;
-use console::say::refused_line;
 use libc::STDOUT_FILENO;
-use refusals::Refusal;
+use policy::line::verdict_line;
+use refusals::Verdict;
 ghost use Prim.Native.Nat.{_≤_};
 ghost use lib.ListN.{length};
-ghost use Rattle.wickorchard.specs.Lent.{Replies};
+ghost use Rattle.console.specs.Lines.{Said};
+ghost use Rattle.console.specs.Replies.{answerTo};
+ghost use Rattle.console.specs.Gathered.{answers};
+ghost use Rattle.policy.specs.Output.{verdictLine};
+ghost use Rattle.wickorchard.specs.Handed.{InFront, Holds};
+ghost use Rattle.wickorchard.specs.Turns.{lastOf};
 
 // The most bytes of the line of a refusal: `refused`, three numbers of at most 20 digits, their tabs and the newline.
 const MOST_REFUSED: usize = 71;
 
-// Writes the line of a refusal, and answers whether it was written.
-pub(crate) fn say_refused(why: Refusal) -> bool {
+// Writes the line of a refusal, or nothing where the verdict is fine; and answers whether it was written.
+pub(crate) fn say_verdict(verdict: Verdict) -> bool {
     let mut out = [0u8; MOST_REFUSED];
-    let said = refused_line(why, &mut out);
-    write_reply(said, &out)
+    let said = verdict_line(verdict, &mut out);
+    write_verdict(verdict, said, &out)
 }
 
-// Writes a reply that stands in front of `out`, and answers whether it was written. One that found no room was not.
-pub(crate) fn write_reply(said: Replied, out: &[u8]) -> bool
-    requires { ⌜ Replies (now out) said ⌝ }
+// Writes what is due at the end of the input: the reply to a last part without newline.
+pub(crate) fn say_last(turn: Turn) -> bool {
+    let mut out = [0u8; MOST_REFUSED];
+    let said = last_line(turn, &mut out);
+    write_last(turn, said, &out)
+}
+
+// What is due at the end of the input, from the front of `out` on: nothing where a reply before it was not written.
+fn last_line(turn: Turn, out: &mut [u8]) -> Replied
+    ensures { λ r. ⌜ Said (lastOf turn) (now (out .entry)) r (now (out .exit)) ⌝ }
+{
+    let from = turn.gathering;
+    if !turn.written {
+        return Replied::Written { bytes: 0 };
+    }
+    last_reply(from, out)
+}
+
+// Writes what is due for a verdict.
+fn write_verdict(verdict: Verdict, said: Replied, out: &[u8]) -> bool
+    requires { ⌜ Holds (verdictLine verdict) (now out) said ⌝ }
 {
     match said {
         Replied::Refused(_) => false,
@@ -27,8 +53,35 @@ pub(crate) fn write_reply(said: Replied, out: &[u8]) -> bool
     }
 }
 
+// Writes what is due at the end of the input.
+fn write_last(turn: Turn, said: Replied, out: &[u8]) -> bool
+    requires { ⌜ Holds (lastOf turn) (now out) said ⌝ }
+{
+    match said {
+        Replied::Refused(_) => false,
+        Replied::Written { bytes } => write_front(bytes, out),
+    }
+}
+
+// Writes the replies to a part of the input, by whoever serves.
+pub(crate) fn write_replies(
+    rules: &[u32],
+    nodes: &[u32],
+    pool: &[u32],
+    accepted: bool,
+    from: Gathering,
+    part: &[u8],
+    count: usize,
+    out: &[u8],
+) -> bool
+    requires { ⌜ InFront (answers (answerTo accepted (now rules) (now nodes) (now pool)) from (now part)) count
+        (now out) ⌝ }
+{
+    write_front(count, out)
+}
+
 // Writes the first `count` bytes of `out`, and answers whether all of them were written.
-pub(crate) fn write_front(count: usize, out: &[u8]) -> bool
+fn write_front(count: usize, out: &[u8]) -> bool
     requires { ⌜ count ≤ length (now out) ⌝ }
 {
     io::write_all(STDOUT_FILENO, &out[..count])

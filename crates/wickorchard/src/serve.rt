@@ -1,12 +1,18 @@
 // The lines of standard input, answered. Each is answered before the program waits for more.
 use crate::load::Got;
 use crate::load::read_some;
-use crate::out::write_front;
-use crate::out::write_reply;
+use crate::out::say_last;
+use crate::out::write_replies;
 use console::feed::feed;
-use console::feed::last_reply;
 use console::gather::Gathering;
 use libc::STDIN_FILENO;
+ghost use Prim.Native.Nat.{_≤_};
+ghost use mathlib.Core.Path.{_≡_};
+ghost use lib.ListN.{length};
+ghost use Rattle.console.specs.Lines.{mostReply};
+ghost use Rattle.wickorchard.specs.Reads.{Gets};
+ghost use Rattle.wickorchard.specs.Handed.{AsList};
+ghost use Rattle.wickorchard.specs.Turns.{going, ended, stopped, first, PieceAnswered, GotAnswered};
 
 // The bytes that are read at once at most, and the bytes of replies that are written at once at most.
 const PIECE: usize = 65536;
@@ -18,40 +24,58 @@ pub struct Turn {
     pub gathering: Gathering,
 }
 
-// Answers standard input to its end, and then the part that has no newline. Output that cannot be written stops it.
-// Nothing proves that input ends, so the reads are counted down, from a number that no run uses up.
-pub(crate) fn serve(rules: &[u32], nodes: &[u32], pool: &[u32], accepted: bool) {
+// Answers standard input to its end, and then the part that has no newline. Output that cannot be written stops it; so
+// it does not begin where the refusal of the tree could not be told. Nothing proves that input ends, so the reads are
+// counted down, from a number that no run uses up.
+pub(crate) fn serve(rules: &[u32], nodes: &[u32], pool: &[u32], accepted: bool, told: bool)
+    requires { ⌜ AsList (now rules) (now nodes) (now pool) accepted ⌝ }
+{
     let mut piece = [0u8; PIECE];
     let mut out = [0u8; PIECE];
-    let mut turn = Turn {
-        more: true,
-        written: true,
-        gathering: Gathering::start(),
-    };
+    let mut turn = first(told);
     let mut reads = u64::MAX;
     while reads > 0 && turn.more {
-        let from = turn.gathering;
-        turn = answer_some(rules, nodes, pool, accepted, from, &mut piece, &mut out);
+        turn = answer_some(rules, nodes, pool, accepted, turn, &mut piece, &mut out);
         reads -= 1;
     }
-    if turn.written {
-        let from = turn.gathering;
-        let said = last_reply(from, &mut out);
-        write_reply(said, &out);
-    }
+    say_last(turn);
 }
 
-// Reads once, and answers the lines that end in what came. A read that fails ends the input, as its end does.
+// Reads once, and answers what came.
 fn answer_some(
     rules: &[u32],
     nodes: &[u32],
     pool: &[u32],
     accepted: bool,
-    from: Gathering,
+    turn: Turn,
     piece: &mut [u8],
     out: &mut [u8],
-) -> Turn {
-    match read_some(STDIN_FILENO, piece) {
+) -> Turn
+    requires { ⌜ AsList (now rules) (now nodes) (now pool) accepted ⌝ }
+    requires { ⌜ mostReply ≤ length (now out) ⌝ }
+{
+    let got = read_some(STDIN_FILENO, piece);
+    answer_got(rules, nodes, pool, accepted, turn, got, piece, out)
+}
+
+// Answers the lines that end in what a read gave. A read that fails ends the input, as its end does.
+fn answer_got(
+    rules: &[u32],
+    nodes: &[u32],
+    pool: &[u32],
+    accepted: bool,
+    turn: Turn,
+    got: Got,
+    piece: &[u8],
+    out: &mut [u8],
+) -> Turn
+    requires { ⌜ AsList (now rules) (now nodes) (now pool) accepted ⌝ }
+    requires { ⌜ mostReply ≤ length (now out) ⌝ }
+    requires { ⌜ Gets (now piece) got ⌝ }
+    ensures { λ r. ⌜ GotAnswered (turn .gathering) got (now (piece .entry)) r ⌝ }
+{
+    let from = turn.gathering;
+    match got {
         Got::Failed => ended(from),
         Got::Ended => ended(from),
         Got::Bytes { count } => answer_piece(
@@ -66,8 +90,7 @@ fn answer_some(
     }
 }
 
-// Answers the lines that end in a piece of the input, as many at once as there is room for. A reply that finds no room
-// though there is nothing before it cannot be written.
+// Answers the lines that end in a piece of the input, as many at once as there is room for.
 fn answer_piece(
     rules: &[u32],
     nodes: &[u32],
@@ -76,20 +99,49 @@ fn answer_piece(
     from: Gathering,
     piece: &[u8],
     out: &mut [u8],
-) -> Turn {
+) -> Turn
+    requires { ⌜ AsList (now rules) (now nodes) (now pool) accepted ⌝ }
+    requires { ⌜ mostReply ≤ length (now out) ⌝ }
+    ensures { λ r. ⌜ PieceAnswered from (now (piece .entry)) r ⌝ }
+{
     let mut gathering = from;
     let mut at = 0;
     while at < piece.len() {
         let fed = feed(rules, nodes, pool, accepted, gathering, &piece[at..], out);
+        let end = at + fed.taken;
+        let filled = fed.filled;
+        if !write_replies(
+            rules,
+            nodes,
+            pool,
+            accepted,
+            gathering,
+            &piece[at..end],
+            filled,
+            out,
+        ) {
+            return stopped(gathering);
+        }
         gathering = fed.gathering;
-        at += fed.taken;
-        if fed.taken == 0 {
-            return stopped(gathering);
-        }
-        if !write_front(fed.filled, out) {
-            return stopped(gathering);
-        }
+        at = end;
     }
+    going(gathering)
+}
+
+// Before the first read: there is nothing to be read where what comes before it could not be told.
+fn first(told: bool) -> Turn
+    ensures { λ r. ⌜ r ≡ first told ⌝ }
+{
+    if told {
+        return going(Gathering::start());
+    }
+    stopped(Gathering::start())
+}
+
+// More is to be read.
+fn going(gathering: Gathering) -> Turn
+    ensures { λ r. ⌜ r ≡ going gathering ⌝ }
+{
     Turn {
         more: true,
         written: true,
@@ -98,19 +150,23 @@ fn answer_piece(
 }
 
 // No more is to be read.
-fn ended(from: Gathering) -> Turn {
+fn ended(gathering: Gathering) -> Turn
+    ensures { λ r. ⌜ r ≡ ended gathering ⌝ }
+{
     Turn {
         more: false,
         written: true,
-        gathering: from,
+        gathering,
     }
 }
 
 // A reply was not written.
-fn stopped(from: Gathering) -> Turn {
+fn stopped(gathering: Gathering) -> Turn
+    ensures { λ r. ⌜ r ≡ stopped gathering ⌝ }
+{
     Turn {
         more: false,
         written: false,
-        gathering: from,
+        gathering,
     }
 }

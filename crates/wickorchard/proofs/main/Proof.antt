@@ -1,24 +1,35 @@
--- `wickorchard::main` is safe: the words of a list stand within the lent words. Assumes nothing.
-use mathlib.Core.Path.{subst}
+-- `wickorchard::main` is safe, and what it hands on is the list of a file. Assumes nothing.
+use native.Mathlib.Omega.{arith}
+use mathlib.Core.Path.{sym}
+use lib.Seq.{length-take-le}
 use borrow.Author.Needs.{needs}
-use Rattle.wickorchard.specs.Lent.{Lists}
+use Rattle.wickorchard.proofs.Standing.{list-handed}
 use Rattle.wickorchard.proofs.main.Statement.{statement}
 use Rattle.wickorchard.proofs.main.Tie as tie
 
-slice-aggregate-load-rules : tie.Need-slice-aggregate-load-rules
-slice-aggregate-load-rules c = search needs
+slice-aggregate-load : tie.Need-slice-aggregate-load
+slice-aggregate-load c = search needs
 
-slice-aggregate-load-rules-2 : tie.Need-slice-aggregate-load-rules-2
-slice-aggregate-load-rules-2 c = search needs
+slice-aggregate-load-2 : tie.Need-slice-aggregate-load-2
+slice-aggregate-load-2 c = search needs
 
-load-rules-requires : tie.Need-load-rules-requires
-load-rules-requires c κs = search needs
+load-requires : tie.Need-load-requires
+load-requires c κs = search needs
+
+slice-aggregate-take-list : tie.Need-slice-aggregate-take-list
+slice-aggregate-take-list c = search needs
+
+slice-aggregate-take-list-2 : tie.Need-slice-aggregate-take-list-2
+slice-aggregate-take-list-2 c = search needs
+
+take-list-requires : tie.Need-take-list-requires
+take-list-requires c κs = search needs
 
 enum-known-why : tie.Need-enum-known-why
 enum-known-why c = search needs
 
-say-refused-requires : tie.Need-say-refused-requires
-say-refused-requires c κs = search needs
+say-verdict-requires : tie.Need-say-verdict-requires
+say-verdict-requires c κs = search needs
 
 enum-known-words : tie.Need-enum-known-words
 enum-known-words c = search needs
@@ -28,16 +39,20 @@ slice-aggregate-answer c = search needs
 
 array-share-prefix-rules : tie.Need-array-share-prefix-rules
 array-share-prefix-rules c =
-    let w = c .before .before in
-    subst (Lists _) (w .words .given .1) (w .before .before .before .before .load-rules .ensures) .0
+    let w = c .before .before .before .before .before in
+    list-handed (w .take-list .ensures) (c .before .before .words .given .1) .1
 
 slice-aggregate-answer-2 : tie.Need-slice-aggregate-answer-2
 slice-aggregate-answer-2 c =
     let w = c .before .before .before in
-    subst (Lists _) (w .words .given .1) (w .before .before .before .before .load-rules .ensures) .1
+    let v = w .before .before .before in
+    sym (length-take-le _ _ (list-handed (v .take-list .ensures) (w .words .given .1) .1))
 
 answer-requires : tie.Need-answer-requires
-answer-requires c κs = search needs
+answer-requires c κs =
+    let w = c .before .before .before in
+    let v = w .before .before .before in
+    (list-handed (v .take-list .ensures) (w .words .given .1) .0, omega arith)
 
 returns : tie.Need-returns
 returns c = search needs
@@ -49,11 +64,14 @@ pub main-spec : {M : Type 1} → statement M
 main-spec =
     tie.close
     (tie.spec
-    slice-aggregate-load-rules
-    slice-aggregate-load-rules-2
-    load-rules-requires
+    slice-aggregate-load
+    slice-aggregate-load-2
+    load-requires
+    slice-aggregate-take-list
+    slice-aggregate-take-list-2
+    take-list-requires
     enum-known-why
-    say-refused-requires
+    say-verdict-requires
     enum-known-words
     slice-aggregate-answer
     array-share-prefix-rules

@@ -1,33 +1,33 @@
--- `wickorchard::serve::answer_piece` is safe and ends: each turn of the loop takes some bytes of the piece. Assumes
--- nothing.
-use Prim.Native.Nat.{_+_, _-_, _≤_}
+-- `wickorchard::serve::answer_piece` meets its contract: each turn of the loop takes some bytes of the piece, has their
+-- replies written, and goes on from the line that they leave gathered. Assumes nothing.
+use Prim.Native.Nat.{_+_, _-_, _≤_, _<_}
 use native.Mathlib.Omega.{arith}
 use mathlib.Core.Path.{_≡_}
 use lib.ListN.{length}
-use borrow.Rule.Slice.PartMut.{mid-len}
+use Rattle.wickorchard.specs.Turns.{unwritten}
+use Rattle.wickorchard.proofs.Turning.{Turned, turned-first, turned-last, turned-within, turned-more}
+use Rattle.wickorchard.proofs.Turning.{turned-front, turned-some}
 use Rattle.wickorchard.proofs.serve.answer_piece.Statement.{statement}
 use Rattle.wickorchard.proofs.serve.answer_piece.Tie as tie
 
 abbrev Inv-loop : tie.InvT-loop
 Inv-loop rules nodes pool accepted piece out₀ gathering₀ at₀ out gathering at =
-    (at ≤ length piece) × (length out ≡ length out₀)
+    Turned gathering₀ piece gathering at × (length out ≡ length out₀)
 
 abbrev μ-loop : tie.MeasureT-loop
 μ-loop rules nodes pool accepted piece out₀ gathering₀ at₀ out gathering at = length piece - at
 
 -- a turn takes no more than what is left of the piece
-taken :
+within :
     (c : tie.After-feed Inv-loop μ-loop) → let here = c .before .before .before .before .loop in
     let piece = c .before .before .before .before .before .before .before .before .before .before .args .piece .now in
     here .at + c .feed .result .taken ≤ length piece
-taken c =
+within c =
     let here = c .before .before .before .before .loop in
-    let piece = c .before .before .before .before .before .before .before .before .before .before .args .piece .now in
-    let left = mid-len (here .at) (length piece) piece (omega arith) in
-    omega (arith, left, c .feed .ensures .1 .0)
+    turned-within (here .inv .0) (c .feed .ensures .0) (c .feed .ensures .1 .0)
 
 loop-holds : tie.Need-loop-holds Inv-loop μ-loop
-loop-holds c = omega arith
+loop-holds c = (turned-first _ _, omega arith)
 
 sub-feed : tie.Need-sub-feed Inv-loop μ-loop
 sub-feed c = omega arith
@@ -41,8 +41,23 @@ part-feed-end c = omega arith
 feed-requires : tie.Need-feed-requires Inv-loop μ-loop
 feed-requires c κs = tt
 
-add-at : tie.Need-add-at Inv-loop μ-loop
-add-at c = omega (arith, taken (c .before .before .before .before))
+add-end : tie.Need-add-end Inv-loop μ-loop
+add-end c = omega (arith, within (c .before .before .before))
+
+sub-write-replies : tie.Need-sub-write-replies Inv-loop μ-loop
+sub-write-replies c = omega arith
+
+part-write-replies-start : tie.Need-part-write-replies-start Inv-loop μ-loop
+part-write-replies-start c = omega arith
+
+part-write-replies-end : tie.Need-part-write-replies-end Inv-loop μ-loop
+part-write-replies-end c = omega (arith, within (c .before .before .before))
+
+write-replies-requires : tie.Need-write-replies-requires Inv-loop μ-loop
+write-replies-requires c κs =
+    let fed = c .before .before .before .before .before in
+    let here = fed .before .before .before .before in
+    turned-front (here .loop .inv .0) (fed .feed .ensures .0) (fed .feed .ensures .1 .0)
 
 stopped-requires : tie.Need-stopped-requires Inv-loop μ-loop
 stopped-requires c κs = tt
@@ -51,32 +66,30 @@ same-length : tie.Need-same-length Inv-loop μ-loop
 same-length c = omega arith
 
 returns : tie.Need-returns Inv-loop μ-loop
-returns c = tt
+returns c = unwritten (c .stopped .ensures)
 
-write-front-requires : tie.Need-write-front-requires Inv-loop μ-loop
-write-front-requires c κs =
-    omega (arith, c .before .before .before .before .before .before .before .feed .ensures .1 .1)
+loop-less : tie.Need-loop-less Inv-loop μ-loop
+loop-less c =
+    let fed = c .before .before .before .before .before .before .before .before in
+    let here = fed .before .before .before .before in
+    let start = here .before .before .before .before .before .before in
+    let some = turned-some (start .pre .0) (here .loop .inv .0) (fed .feed .ensures .0) (omega arith) (omega arith) in
+    omega (arith, within fed, some)
 
-stopped-requires-2 : tie.Need-stopped-requires-2 Inv-loop μ-loop
-stopped-requires-2 c κs = tt
+loop-again : tie.Need-loop-again Inv-loop μ-loop
+loop-again c =
+    let fed = c .before .before .before .before .before .before .before .before in
+    let here = fed .before .before .before .before in
+    (turned-more (here .loop .inv .0) (fed .feed .ensures .0) (fed .feed .ensures .1 .0), omega arith)
+
+going-requires : tie.Need-going-requires Inv-loop μ-loop
+going-requires c κs = tt
 
 same-length-2 : tie.Need-same-length-2 Inv-loop μ-loop
 same-length-2 c = omega arith
 
 returns-2 : tie.Need-returns-2 Inv-loop μ-loop
-returns-2 c = tt
-
-loop-less : tie.Need-loop-less Inv-loop μ-loop
-loop-less c = omega (arith, taken (c .before .before .before .before .before .before .before .before .before))
-
-loop-again : tie.Need-loop-again Inv-loop μ-loop
-loop-again c = omega (arith, taken (c .before .before .before .before .before .before .before .before .before))
-
-same-length-3 : tie.Need-same-length-3 Inv-loop μ-loop
-same-length-3 c = omega arith
-
-returns-3 : tie.Need-returns-3 Inv-loop μ-loop
-returns-3 c = tt
+returns-2 c = turned-last (c .before .before .loop .inv .0) (omega arith) (c .going .ensures)
 
 pub answer-piece-spec : {M : Type 1} → statement M
 answer-piece-spec =
@@ -89,15 +102,16 @@ answer-piece-spec =
     part-feed-start
     part-feed-end
     feed-requires
-    add-at
+    add-end
+    sub-write-replies
+    part-write-replies-start
+    part-write-replies-end
+    write-replies-requires
     stopped-requires
     same-length
     returns
-    write-front-requires
-    stopped-requires-2
-    same-length-2
-    returns-2
     loop-less
     loop-again
-    same-length-3
-    returns-3)
+    going-requires
+    same-length-2
+    returns-2)

@@ -1,0 +1,57 @@
+-- What stands in front of lent bytes, and who answers as the list does.
+use Prim.Native.Nat.{ℕ, _≤_}
+use native.Mathlib.Omega.{arith}
+use mathlib.Core.Path.{_≡_, sym, ap, subst, _∙_}
+use mathlib.Core.List.{List, [], _∷_}
+use mathlib.Core.Option.{Option}
+use lib.ListN.{length, take, drop, length-append}
+use Rattle.facts.specs.Lists.{written}
+use Rattle.facts.proofs.Setting.{written-front}
+use Rattle.refusals.specs.Order.{roomVerdict}
+use Rattle.refusals.proofs.Order.{leaving-fine}
+use Rattle.refusals.proofs.Giving.{success-giving}
+use Rattle.console.specs.declared.say.Replied.{Replied}
+use Rattle.console.specs.declared.say.Replied.the-variants.{Refused, Written}
+use Rattle.console.specs.Lines.{Said}
+use Rattle.policy.specs.declared.list.Listed.{Listed}
+use Rattle.policy.specs.declared.list.Listed.the-variants.{Words}
+use Rattle.policy.specs.declared.tree.Serving.{Serving}
+use Rattle.policy.specs.TakeList.{ListTaken}
+use Rattle.policy.specs.TakeTree.{TreeTaken}
+use Rattle.policy.proofs.Listing.{taken-list, list-good}
+use Rattle.policy.proofs.Serving.{taken-as-list}
+use Rattle.wickorchard.specs.Handed.{IsList, AsList, InFront, Holds}
+
+-- bytes that were written in front stand there
+pub front-written :
+    (bs before : List ℕ) {after : List ℕ} {n : ℕ} → after ≡ written bs before → n ≡ length bs → InFront bs n after
+unfolding written
+front-written bs before {after} {n} e k =
+    record {
+      within = rw (e, length-append bs (drop (length bs) before)) (omega (arith, k));
+      are = ap (take n) e ∙ written-front bs before n (sym k);
+    }
+
+-- what was said stands in front
+pub said-holds : {bs before after : List ℕ} (r : Replied) → Said bs before r after → Holds bs after r
+said-holds (Refused why) s = tt
+said-holds {bs} {before} (Written n) s =
+    let w = success-giving (roomVerdict (length bs) (length before)) (length bs ∷ []) (s .answers) in
+    let count : n ≡ length bs = (let z = w .1 in cc) in
+    front-written bs before (s .leaves ∙ leaving-fine _ _ (w .0)) count
+
+-- ---- who answers
+
+-- a list that was taken is the list of a file
+pub list-handed :
+    {f : Option (List ℕ)} {before after : List ℕ} {l : Listed} {n : ℕ} → ListTaken f before l after → l ≡ Words n →
+    IsList (take n after) × (n ≤ length after)
+list-handed {f} {before} {after} t e =
+    let w = taken-list (subst (λ (x : Listed). ListTaken f before x after) e t) in ((f, w .0), w .1)
+
+-- whoever was left to serve answers as the list does
+pub serving-handed :
+    {rs : List ℕ} {f : Option (List ℕ)} {nodes pool nodes′ pool′ : List ℕ} {r : Serving} → IsList rs →
+    TreeTaken rs f nodes pool r nodes′ pool′ →
+    AsList rs (take (r .nodes) nodes′) (take (r .pool) pool′) (r .accepted)
+serving-handed l t = record { list = list-good (l .0) (l .1); answers = taken-as-list t }

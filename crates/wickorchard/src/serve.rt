@@ -120,7 +120,7 @@ fn answer_piece(
             filled,
             out,
         ) {
-            return stopped(gathering);
+            return stopped(from);
         }
         gathering = fed.gathering;
         at = end;

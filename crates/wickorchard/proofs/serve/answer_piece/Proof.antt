@@ -11,11 +11,11 @@ use Rattle.wickorchard.proofs.serve.answer_piece.Statement.{statement}
 use Rattle.wickorchard.proofs.serve.answer_piece.Tie as tie
 
 abbrev Inv-loop : tie.InvT-loop
-Inv-loop rules nodes pool accepted piece out₀ gathering₀ at₀ out gathering at =
-    Turned gathering₀ piece gathering at × (length out ≡ length out₀)
+Inv-loop rules nodes pool accepted from piece out₀ gathering₀ at₀ out gathering at =
+    Turned from piece gathering at × (length out ≡ length out₀)
 
 abbrev μ-loop : tie.MeasureT-loop
-μ-loop rules nodes pool accepted piece out₀ gathering₀ at₀ out gathering at = length piece - at
+μ-loop rules nodes pool accepted from piece out₀ gathering₀ at₀ out gathering at = length piece - at
 
 -- a turn takes no more than what is left of the piece
 within :

@@ -46,8 +46,8 @@ void wick_rule_check(const wick_word *rules, wick_count rules_len, wick_count an
 void wick_line_all(const wick_word *rules, wick_count rules_len, const wick_word *header, wick_count header_len,
                    wick_word *out, wick_count out_len, wick_count answer[8]);
 
-/* Searches the list line by line for the lowest rule that matches. Refuses with 1, 2, 3. a: 1 and b: the rule's number;
- * or a: 0 where none matches. */
+/* Searches the list line by line for the lowest rule that matches. Refuses with 1, 2, 3. a: the rule's number + 1, or 0
+ * where none matches. */
 void wick_line_first(const wick_word *rules, wick_count rules_len, const wick_word *header, wick_count header_len,
                      wick_count answer[8]);
 

@@ -16,6 +16,7 @@ use Rattle.rules.proofs.Unique.{rule-checked-unique, line-all-searched-unique, 
 use Rattle.trees.specs.Words.{nodeWords}
 use Rattle.trees.specs.declared.search.TreeListed.the-variants as tree-listed
 use Rattle.trees.specs.TreeAll.{treeAll, treeAllWords, TreeAllSearched}
+use Rattle.trees.proofs.Counting.{said-giving}
 use Rattle.trees.proofs.Unique.{tree-all-searched-unique, tree-first-searched-unique}
 use Rattle.tree_check.proofs.Unique.{tree-checked-unique}
 use Rattle.rule_file.specs.declared.write.Written.the-variants as rules-written
@@ -57,8 +58,8 @@ tree-call :
 unfolding treeAll treeAllWords
 tree-call rs nodes pool h w v c = (
   λ r s x u p q. tree-all-searched-unique p q,
-  λ why a p. left-as-found _ _ _ w (p .leaves) why (p .answers),
-  λ n a p. behind _ _ w _ _ (p .leaves) (p .answers),
+  λ why a p. left-as-found _ _ _ w (p .leaves) why (said-giving _ _ _ _ (p .answers)),
+  λ n a p. behind _ _ w _ _ (p .leaves) (said-giving _ _ _ _ (p .answers)),
 )
 
 rules-written-call : (rs w : List ℕ) → Call w (RulesWritten rs w) rules-written.Refused rules-written.Bytes (λ n. n)

@@ -11,9 +11,12 @@ use Rattle.fields.specs.Ranges.{rangeGood, rangeHolds, rangesMeet}
 use Rattle.rules.specs.Good.{good, ruleVerdict, listVerdict}
 use Rattle.rules.specs.Lacking.{lacking, lowestLacking}
 use Rattle.rules.specs.Matching.{matches, matching, ruleBox}
+use Rattle.rules.specs.LineAll.{allVerdict, lineAll}
+use Rattle.rules.specs.LineFirst.{lineFirst}
 use Rattle.trees.specs.Words.{entries, sizeVerdict}
 use Rattle.trees.specs.Walk.{sideOf, stepOf, walk, walkOf}
 use Rattle.trees.specs.Search.{leafVerdict, treeVerdict, leafList, treeList, lookedAt}
+use Rattle.trees.specs.Counted.{counting}
 use Rattle.trees.specs.TreeAll.{treeAllVerdict, treeAll}
 use Rattle.trees.specs.TreeFirst.{treeFirst}
 use Rattle.trees.specs.Spelt.{leafCount, countsBelow, leafSpelt, nodeVerdict, speltVerdict}
@@ -25,22 +28,22 @@ pub worked : AllHold table
 unfolding allBelow lowest run keep has rises allUnder refuseUnless roomVerdict _then_ inTurn _giving_ meets
     divides leftOf rightOf fieldVerdict headerVerdict span prefixGood prefixAgrees prefixEnds rangeGood
     rangeHolds rangesMeet good ruleVerdict listVerdict lacking lowestLacking matches matching ruleBox entries
-    sizeVerdict sideOf stepOf walk walkOf leafVerdict treeVerdict leafList treeList lookedAt treeAllVerdict
-    treeAll treeFirst leafCount countsBelow leafSpelt nodeVerdict speltVerdict lackOf leafPart cutPart
-    nodePart partOf rootPart checkVerdict treeCheck
+    allVerdict lineAll lineFirst sizeVerdict sideOf stepOf walk walkOf leafVerdict treeVerdict leafList treeList
+    lookedAt counting treeAllVerdict treeAll treeFirst leafCount countsBelow leafSpelt nodeVerdict speltVerdict
+    lackOf leafPart cutPart nodePart partOf rootPart checkVerdict treeCheck
 worked = (
-  (refl, refl, refl, refl),
+  (refl, refl, refl, refl, refl, refl),
   (
-    (refl, refl, refl, refl),
+    (refl, refl, refl, refl, refl, refl),
     (
-      (refl, refl, refl, refl),
+      (refl, refl, refl, refl, refl, refl),
       (
-        (refl, refl, refl, refl),
+        (refl, refl, refl, refl, refl, refl),
         (
-          (refl, refl, refl, refl),
+          (refl, refl, refl, refl, refl, refl),
           (
-            (refl, refl, refl, refl),
-            ((refl, refl, refl, refl), (refl, (refl, (refl, (refl, tt))))),
+            (refl, refl, refl, refl, refl, refl),
+            ((refl, refl, refl, refl, refl, refl), (refl, (refl, (refl, (refl, tt))))),
           ),
         ),
       ),

@@ -19,9 +19,9 @@ use Rattle.rules.specs.LineAll.{lineAll, lineAllWords, LineAllSearched}
 use Rattle.rules.specs.LineAll as line
 use Rattle.trees.specs.declared.search.TreeListed.{TreeListed}
 use Rattle.trees.specs.declared.search.TreeListed.the-variants as treed
-use Rattle.trees.specs.Search.{treeList}
 use Rattle.trees.specs.TreeAll.{treeAllVerdict, treeAll, treeAllWords, TreeAllSearched}
 use Rattle.trees.specs.TreeAll as tree
+use Rattle.trees.proofs.Counting.{success-counting, refusal-counting}
 use Rattle.console.specs.Lines.{refusedLine, hitLine}
 use Rattle.console.specs.Replies.{searchVerdict, searchList, Found, answerOf}
 
@@ -44,7 +44,7 @@ module _ (rs nodes pool h : List ℕ) {before after : List ℕ} where
   unfolding searchVerdict searchList treeAll treeAllWords
   by-tree-refused {why = why} e f p =
       let v : treeAllVerdict rs nodes pool h (length before) ≡ verdict.Refused why =
-      refusal-giving _ _ (ap tree.paper (sym f) ∙ p .answers) in
+      refusal-counting _ _ _ _ (ap tree.paper (sym f) ∙ p .answers) in
       rw e (record { answers = sym (giving-refused _ v); leaves = p .leaves })
 
   -- so is one that finds numbers
@@ -55,9 +55,9 @@ module _ (rs nodes pool h : List ℕ) {before after : List ℕ} where
       (listed.Found n) after
   unfolding searchVerdict searchList treeAll treeAllWords
   by-tree-found {n = n} e f p =
-      let v = success-giving (treeAllVerdict rs nodes pool h (length before)) _ (ap tree.paper (sym f) ∙ p .answers) in
-      let same : n ∷ [] ≡ length (treeList rs nodes pool h) ∷ [] = ap (λ (l : List ℕ). take 1 l) (v .1) in
-      rw e (record { answers = ap success same ∙ sym (giving-fine _ (v .0)); leaves = p .leaves })
+      let said = ap tree.paper (sym f) ∙ p .answers in
+      let v = success-counting (treeAllVerdict rs nodes pool h (length before)) _ _ _ said in
+      rw e (record { answers = ap success (v .1) ∙ sym (giving-fine _ (v .0)); leaves = p .leaves })
 
 -- ---- the line that is made of it
 

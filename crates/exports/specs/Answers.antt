@@ -1,38 +1,44 @@
 -- The answers of the C functions: eight words. Definitions only.
---   eight         number (0 on success), place, extra, then the values, and 0 for what is not used
---   .. Answered   the promise of each call: the answer's words, and the lent output's, are as defined
-use Prim.Native.Nat.{ℕ}
+--   eight            number (0 on success), place, extra, then the values, and 0 for what is not used
+--   inOneWord        a first match as one value: the rule's number + 1, or 0 where none matches
+--   withCounts       a success with the nodes visited and the entries compared behind its value
+--   allInWords, firstInWords    what a tree search says, with its counts so; a first match in one word
+--   Answered p left  the promise of every call: the answer is p in eight words, and the lent outputs, of which there
+--                    are none, one or two, are left so
+--   MatchFits        the number of a first match has room for one more
+use Prim.Native.Nat.{ℕ, _+_, _<_, _^_}
 use mathlib.Core.Path.{_≡_}
-use mathlib.Core.List.{List, _∷_, _++_}
-use lib.ListN.{length, take, replicate}
+use mathlib.Core.List.{List, [], _∷_, _++_}
+use lib.ListN.{take, replicate}
 use Rattle.refusals.specs.Paper.{Paper, refusal, success}
-use Rattle.rules.specs.RuleCheck.{ruleCheck}
-use Rattle.rules.specs.LineAll.{lineAll, lineAllWords}
-use Rattle.rules.specs.LineFirst.{lineFirst}
-use Rattle.trees.specs.TreeAll.{treeAll, treeAllWords}
-use Rattle.trees.specs.TreeFirst.{treeFirst}
-use Rattle.tree_check.specs.TreeCheck.{treeCheck}
+use Rattle.rules.specs.declared.line.First.{First}
+use Rattle.rules.specs.declared.line.First.the-variants.{Refused, Rule, NoRule}
+use Rattle.trees.specs.Counted.{Counted, counted}
 
 abbrev pub eight : Paper → List ℕ
 eight (refusal number place extra) = number ∷ place ∷ extra ∷ replicate 5 0
 eight (success values) = 0 ∷ 0 ∷ 0 ∷ take 5 (values ++ replicate 5 0)
 
-pub record RuleCheckAnswered (rs answer : List ℕ) : Type 0 where
-  pub answers : answer ≡ eight (ruleCheck rs)
+abbrev pub inOneWord : Paper → Paper
+inOneWord (refusal number place extra) = refusal number place extra
+inOneWord (success []) = success (0 ∷ [])
+inOneWord (success (rule ∷ rest)) = success ((rule + 1) ∷ [])
 
-pub record LineAllAnswered (rs h before after answer : List ℕ) : Type 0 where
-  pub answers : answer ≡ eight (lineAll rs h (length before))
-  pub leaves : after ≡ lineAllWords rs h before
+abbrev pub withCounts : Paper → ℕ → ℕ → Paper
+withCounts (refusal number place extra) visited compared = refusal number place extra
+withCounts (success values) visited compared = success (values ++ (visited ∷ compared ∷ []))
 
-pub record LineFirstAnswered (rs h answer : List ℕ) : Type 0 where
-  pub answers : answer ≡ eight (lineFirst rs h)
+abbrev pub allInWords : Counted → Paper
+allInWords (counted says visited compared) = withCounts says visited compared
 
-pub record TreeAllAnswered (rs nodes pool h before after answer : List ℕ) : Type 0 where
-  pub answers : answer ≡ eight (treeAll rs nodes pool h (length before))
-  pub leaves : after ≡ treeAllWords rs nodes pool h before
+abbrev pub firstInWords : Counted → Paper
+firstInWords (counted says visited compared) = withCounts (inOneWord says) visited compared
 
-pub record TreeFirstAnswered (rs nodes pool h answer : List ℕ) : Type 0 where
-  pub answers : answer ≡ eight (treeFirst rs nodes pool h)
+pub record Answered (p : Paper) (left : List (List ℕ)) (answer : List ℕ) (after : List (List ℕ)) : Type 0 where
+  pub answers : answer ≡ eight p
+  pub leaves : after ≡ left
 
-pub record TreeCheckAnswered (rs nodes pool answer : List ℕ) : Type 0 where
-  pub answers : answer ≡ eight (treeCheck rs nodes pool)
+unfoldable pub MatchFits : First → Type 0
+MatchFits (Refused why) = Unit {0}
+MatchFits (Rule number) = number < 2 ^ 32
+MatchFits NoRule = Unit {0}

@@ -1,3 +1,3 @@
--- The answers of the C functions.
+-- The answers of the C functions, and the promise of each.
 pub mod Answers
-pub mod FileAnswers
+pub mod Calls

@@ -7,7 +7,8 @@ ghost use mathlib.Core.Path.{_≡_};
 ghost use Rattle.rules.specs.RuleCheck as checked;
 ghost use Rattle.rules.specs.LineAll as listed;
 ghost use Rattle.rules.specs.LineFirst as first;
-ghost use Rattle.exports.specs.Answers.{eight, RuleCheckAnswered, LineAllAnswered, LineFirstAnswered};
+ghost use Rattle.exports.specs.Answers.{eight, inOneWord, MatchFits};
+ghost use Rattle.exports.specs.Calls.{RuleCheckAnswered, LineAllAnswered, LineFirstAnswered};
 
 // The value: the number of rules.
 #[no_mangle]
@@ -31,7 +32,7 @@ pub extern "C" fn wick_line_all(
     *answer = of_listed(rules::line::line_all(rules, header, out));
 }
 
-// The values: 1 and the lowest number that matches, or 0.
+// The value: the lowest number that matches and one more, or 0.
 #[no_mangle]
 pub extern "C" fn wick_line_first(rules: &[u32], header: &[u32], answer: &mut [u64; 8])
     ensures { λ _. ⌜ LineFirstAnswered (now (rules .entry)) (now (header .entry)) (now (answer .exit)) ⌝ }
@@ -58,11 +59,12 @@ fn of_listed(said: Listed) -> [u64; 8]
 }
 
 fn of_first(said: First) -> [u64; 8]
-    ensures { λ r. ⌜ r ≡ eight (first.paper said) ⌝ }
+    requires { ⌜ MatchFits said ⌝ }
+    ensures { λ r. ⌜ r ≡ eight (inOneWord (first.paper said)) ⌝ }
 {
     match said {
         First::Refused(why) => of_refusal(why),
-        First::Rule { number } => [0, 0, 0, 1, number as u64, 0, 0, 0],
+        First::Rule { number } => [0, 0, 0, number as u64 + 1, 0, 0, 0, 0],
         First::NoRule => [0, 0, 0, 0, 0, 0, 0, 0],
     }
 }

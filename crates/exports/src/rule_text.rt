@@ -6,7 +6,7 @@ ghost use mathlib.Core.Path.{_≡_};
 ghost use Rattle.rule_file.specs.ReadRules as read;
 ghost use Rattle.rule_file.specs.WriteRules as written;
 ghost use Rattle.exports.specs.Answers.{eight};
-ghost use Rattle.exports.specs.FileAnswers.{RulesWriteAnswered, RulesReadAnswered};
+ghost use Rattle.exports.specs.Calls.{RulesWriteAnswered, RulesReadAnswered};
 
 // The value: the bytes that were written to `text`.
 #[no_mangle]

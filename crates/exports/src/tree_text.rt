@@ -6,7 +6,7 @@ ghost use mathlib.Core.Path.{_≡_};
 ghost use Rattle.tree_file.specs.ReadTree as read;
 ghost use Rattle.tree_file.specs.WriteTree as written;
 ghost use Rattle.exports.specs.Answers.{eight};
-ghost use Rattle.exports.specs.FileAnswers.{TreeWriteAnswered, TreeReadAnswered};
+ghost use Rattle.exports.specs.Calls.{TreeWriteAnswered, TreeReadAnswered};
 
 // The value: the bytes that were written to `text`, there being `rules` rules.
 #[no_mangle]

@@ -1,4 +1,5 @@
 -- The laws, by subject.
+pub mod Equations
 pub mod Bools
 pub mod Cases
 pub mod Below

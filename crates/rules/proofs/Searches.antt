@@ -7,19 +7,19 @@ use lib.ListN.{length}
 use Rattle.facts.specs.Lists.{run, written}
 use Rattle.facts.proofs.Counting.{keep-at-most, length-run}
 use Rattle.refusals.specs.declared.Refusal.{Refusal}
-use Rattle.refusals.specs.declared.Verdict.{Verdict}
 use Rattle.refusals.specs.declared.Verdict.the-variants.{Fine, Refused}
 use Rattle.refusals.specs.Paper.{success}
 use Rattle.refusals.specs.Order.{_then_, roomVerdict}
 use Rattle.refusals.proofs.Order.{then-fine, then-refused, then-fine-iff, then-assoc, room-fine-iff}
 use Rattle.refusals.proofs.Order.{giving-refused, giving-fine, leaving-refused, leaving-fine}
+use Rattle.refusals.proofs.Giving.{success-giving}
 use Rattle.fields.specs.Headers.{headerVerdict}
 use Rattle.fields.proofs.Headers.{legal-iff}
 use Rattle.rules.specs.declared.check.Checked.the-variants as checked
 use Rattle.rules.specs.declared.line.Listed.the-variants as listed
 use Rattle.rules.specs.declared.line.First.{First}
 use Rattle.rules.specs.declared.line.First.the-variants as first
-use Rattle.rules.specs.Words.{ruleCount}
+use Rattle.rules.specs.Words.{mostRules, ruleCount}
 use Rattle.rules.specs.Good.{listVerdict}
 use Rattle.rules.specs.Matching.{matches, matching}
 use Rattle.rules.specs.RuleCheck.{ruleCheck, RuleChecked}
@@ -27,6 +27,7 @@ use Rattle.rules.specs.LineAll.{allVerdict, lineAll, lineAllWords, LineA
 use Rattle.rules.specs.LineFirst.{firstOf, lineFirst, LineFirstSearched}
 use Rattle.rules.specs.LineSteps.{Room, Written, FirstIs}
 use Rattle.rules.proofs.Lists.{fine-iff-good}
+use Rattle.rules.proofs.Listing.{head-is-lowest}
 
 -- ---- the rule check
 
@@ -111,3 +112,17 @@ module _ (rs h : List ℕ) where
       (r : First) → (listVerdict rs then headerVerdict h) ≡ Fine → FirstIs rs h r → LineFirstSearched rs h r
   unfolding lineFirst
   first-found r e f = record { answers = f .is ∙ sym (giving-fine _ e) }
+
+  -- the first of the matches is the number of a rule
+  first-is-rule : {n : ℕ} (ms : List ℕ) → matching rs h ≡ ms → n ∷ [] ≡ firstOf ms → n < ruleCount rs
+  first-is-rule [] e q = let z : _≡_ {A = ℕ} 0 1 = cc in absurd (omega arith)
+  first-is-rule {n} (r ∷ rest) e q =
+      let same : n ≡ r = cc in omega (arith, head-is-lowest rs h r rest e .rule)
+
+  -- a rule that is found is one of the few of a good list
+  pub first-below : {n : ℕ} → LineFirstSearched rs h (first.Rule n) → n < mostRules
+  unfolding lineFirst
+  first-below p =
+      let f = success-giving (listVerdict rs then headerVerdict h) _ (p .answers) in
+      let g = fine-iff-good rs .0 (then-fine-iff _ _ .0 (f .0) .0) in
+      omega (arith, first-is-rule (matching rs h) refl (f .1), g .few, g .whole)

@@ -1,6 +1,6 @@
 -- The line search for the first match. Definitions only.
---   paper            an answer of the search, on paper: 1 and the number, or 0 for none
---   firstOf ms       the same for the first of the numbers ms
+--   paper            an answer of the search, on paper: the number of the first match, or no value for none
+--   firstOf ms       the same for the first of the numbers ms; the tree search says it so too
 --   lineFirst rs h   1, 2, 3; else the lowest number that matches
 --   LineFirstSearched    the promise: the answer is as defined
 use Prim.Native.Nat.{ℕ}
@@ -16,12 +16,12 @@ use Rattle.rules.specs.Matching.{matching}
 
 abbrev pub paper : First → Paper
 paper (Refused why) = onPaper why
-paper (Rule number) = success (1 ∷ number ∷ [])
-paper NoRule = success (0 ∷ [])
+paper (Rule number) = success (number ∷ [])
+paper NoRule = success []
 
 abbrev pub firstOf : List ℕ → List ℕ
-firstOf [] = 0 ∷ []
-firstOf (r ∷ rest) = 1 ∷ r ∷ []
+firstOf [] = []
+firstOf (r ∷ rest) = r ∷ []
 
 unfoldable pub lineFirst : List ℕ → List ℕ → Paper
 lineFirst rs h = (listVerdict rs then headerVerdict h) giving firstOf (matching rs h)

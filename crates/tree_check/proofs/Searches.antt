@@ -8,21 +8,22 @@ use Rattle.facts.proofs.Under.{all-under-iff-has}
 use Rattle.refusals.specs.declared.Verdict.{Verdict}
 use Rattle.refusals.specs.declared.Verdict.the-variants.{Fine, Refused}
 use Rattle.refusals.specs.Paper.{success}
-use Rattle.refusals.specs.Order.{roomVerdict, _then_, _giving_}
+use Rattle.refusals.specs.Order.{roomVerdict, _then_}
 use Rattle.refusals.proofs.Order.{holds-fine, then-fine, then-refused, giving-fine, leaving-refused}
 use Rattle.fields.specs.Headers.{headerVerdict, Legal}
 use Rattle.rules.specs.Words.{ruleCount}
 use Rattle.rules.specs.Good.{listVerdict}
 use Rattle.rules.specs.Matching.{matches, matching}
 use Rattle.rules.specs.LineAll.{allVerdict, lineAllWords}
-use Rattle.rules.specs.LineFirst.{lineFirst}
-use Rattle.rules.specs.LineFirst as line
+use Rattle.rules.specs.LineFirst.{firstOf, lineFirst}
 use Rattle.trees.specs.Words.{startOf, countOf, entries}
 use Rattle.trees.specs.Walk.{Walk, walkOf, leafOf, visited}
 use Rattle.trees.specs.Search.{walkVerdict, leafVerdict, treeVerdict, leafList, treeList, lookedAt}
+use Rattle.trees.specs.Counted.{counted, counting}
 use Rattle.trees.specs.TreeAll.{treeAllVerdict, treeAll, treeAllWords}
-use Rattle.trees.specs.TreeFirst.{firstOf, treeFirst}
+use Rattle.trees.specs.TreeFirst.{treeFirst}
 use Rattle.trees.specs.Spelt.{SpeltLeaf}
+use Rattle.trees.proofs.Counting.{counting-fine}
 use Rattle.tree_check.specs.declared.preorder.Lack.{Lack}
 use Rattle.tree_check.specs.TreeCheck.{checkVerdict}
 use Rattle.tree_check.proofs.Comes.{Formed, finds, leaf-of, comes}
@@ -91,21 +92,20 @@ module _ (rs nodes pool : List ℕ) (ok : checkVerdict rs nodes pool ≡ Fine) w
     -- of a legal header it says how many match, where the room is enough, with the nodes visited and the leaf's length
     pub tree-all-is :
         (room : ℕ) → treeAll rs nodes pool h room ≡
-        (roomVerdict (length (matching rs h)) room giving
-        (length (matching rs h) ∷ visited (walkOf nodes h) ∷ length (leafList nodes pool h) ∷ []))
+        counting (roomVerdict (length (matching rs h)) room) (length (matching rs h) ∷ []) (visited (walkOf nodes h))
+        (length (leafList nodes pool h))
     unfolding treeAll treeAllVerdict _then_
     tree-all-is room = rw (refuses-none h k, same-list h k)
 
     -- the line search for the first match gives the first of its list
-    pub line-first-is : lineFirst rs h ≡ success (line.firstOf (matching rs h))
+    pub line-first-is : lineFirst rs h ≡ success (firstOf (matching rs h))
     unfolding lineFirst
     line-first-is = giving-fine _ (then-fine _ (accepted rs nodes pool ok .2 .list) ∙ k)
 
     -- the tree search for the first match gives the first of the line search's list
     pub tree-first-is :
         treeFirst rs nodes pool h ≡
-        success
-        (firstOf (matching rs h) ∷ visited (walkOf nodes h) ∷
-        length (lookedAt (matches rs h) (leafList nodes pool h)) ∷ [])
+        counted (success (firstOf (matching rs h))) (visited (walkOf nodes h))
+        (length (lookedAt (matches rs h) (leafList nodes pool h)))
     unfolding treeFirst
-    tree-first-is = giving-fine _ (refuses-none h k) ∙ rw (same-list h k)
+    tree-first-is = counting-fine _ _ _ (refuses-none h k) ∙ rw (same-list h k)

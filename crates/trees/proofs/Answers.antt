@@ -10,7 +10,7 @@ use Rattle.refusals.specs.declared.Refusal.{Refusal}
 use Rattle.refusals.specs.declared.Verdict.the-variants.{Fine, Refused}
 use Rattle.refusals.specs.Order.{_then_, roomVerdict}
 use Rattle.refusals.proofs.Order.{fine-iff-holds, then-fine, then-refused, then-fine-iff}
-use Rattle.refusals.proofs.Order.{giving-refused, giving-fine, leaving-refused, leaving-fine}
+use Rattle.refusals.proofs.Order.{leaving-refused, leaving-fine}
 use Rattle.fields.proofs.Headers.{legal-iff}
 use Rattle.rules.specs.Matching.{matches}
 use Rattle.trees.specs.declared.search.Reached.the-variants as reached
@@ -25,6 +25,7 @@ use Rattle.trees.specs.TreeAll.{treeAllVerdict, treeAll, treeAllWords, T
 use Rattle.trees.specs.TreeFirst.{treeFirst, TreeFirstSearched}
 use Rattle.trees.specs.Steps.{AtLeaf, Reaches, Comparable, Kept, LeafListed, LeafFirst}
 use Rattle.trees.proofs.Spelling.{part-is-entries}
+use Rattle.trees.proofs.Counting.{counting-refused, counting-fine}
 
 -- ---- the whole search
 
@@ -94,7 +95,7 @@ module _ (rs nodes pool h : List ℕ) where
         {r : TreeFirst} → LeafFirst rs h (take (s + k - s) (drop s pool)) n r → TreeFirstSearched rs nodes pool h r
     unfolding treeFirst
     first-at-leaf w =
-        record { answers = rw (list, a .seen, part-is-leaf) at (w .answers) ∙ sym (giving-fine _ (a .fine)) }
+        record { answers = rw (list, a .seen, part-is-leaf) at (w .answers) ∙ sym (counting-fine _ _ _ (a .fine)) }
 
   -- a refusal on the way is the answer of the search for all matches, and the words are as found
   pub all-refused :
@@ -103,14 +104,14 @@ module _ (rs nodes pool h : List ℕ) where
   unfolding treeAll treeAllWords treeAllVerdict
   all-refused before (Reaches.refuses e) =
       let v = then-refused (roomVerdict (length (treeList rs nodes pool h)) (length before)) e in
-      record { answers = sym (giving-refused _ v); leaves = sym (leaving-refused _ _ v) }
+      record { answers = sym (counting-refused _ _ _ v); leaves = sym (leaving-refused _ _ v) }
 
   -- a refusal on the way is the answer of the search for the first match
   pub first-refused :
       {why : Refusal} → Reaches rs nodes pool h (reached.Refused why) →
       TreeFirstSearched rs nodes pool h (first.Refused why)
   unfolding treeFirst
-  first-refused (Reaches.refuses e) = record { answers = sym (giving-refused _ e) }
+  first-refused (Reaches.refuses e) = record { answers = sym (counting-refused _ _ _ e) }
 
 -- ---- the entries of a leaf
 
@@ -119,7 +120,7 @@ module _ (rs h l : List ℕ) (seen : ℕ) where
   pub leaf-short :
       {why : Refusal} (before : List ℕ) → roomVerdict (length (keep (matches rs h) l)) (length before) ≡ Refused why →
       LeafListed rs h l seen before (listed.Refused why) before
-  leaf-short before v = record { answers = sym (giving-refused _ v); leaves = sym (leaving-refused _ _ v) }
+  leaf-short before v = record { answers = sym (counting-refused _ _ _ v); leaves = sym (leaving-refused _ _ v) }
 
   -- with room enough the answer is how many match, and they are written
   pub leaf-listed :
@@ -127,4 +128,4 @@ module _ (rs h l : List ℕ) (seen : ℕ) where
       roomVerdict (length (keep (matches rs h) l)) (length before) ≡ Fine → Kept rs h l before n after →
       LeafListed rs h l seen before (listed.Found n seen (length l)) after
   leaf-listed before v w =
-      record { answers = rw (w .counts) (sym (giving-fine _ v)); leaves = w .writes ∙ sym (leaving-fine _ _ v) }
+      record { answers = rw (w .counts) (sym (counting-fine _ _ _ v)); leaves = w .writes ∙ sym (leaving-fine _ _ v) }

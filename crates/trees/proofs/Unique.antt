@@ -1,14 +1,14 @@
 -- Each promise of the tree search allows one result and one state of the lent words.
-use Prim.Native.Nat.{ℕ, _+_}
-use native.Mathlib.Omega.{arith}
+use Prim.Native.Nat.{ℕ}
 use mathlib.Core.Path.{_≡_, sym, ap, _∙_}
-use mathlib.Core.List.{List, [], _∷_}
-use Rattle.refusals.specs.Paper.{success}
+use mathlib.Core.List.{List}
+use Rattle.refusals.specs.Paper.{refusal, success}
 use Rattle.refusals.proofs.Unique.{on-paper-unique, refusal-not-success}
 use Rattle.trees.specs.declared.search.TreeListed.{TreeListed}
 use Rattle.trees.specs.declared.search.TreeListed.the-variants as listed
 use Rattle.trees.specs.declared.search.TreeFirst.{TreeFirst}
 use Rattle.trees.specs.declared.search.TreeFirst.the-variants as first
+use Rattle.trees.specs.Counted.{counted, said}
 use Rattle.trees.specs.TreeAll.{TreeAllSearched}
 use Rattle.trees.specs.TreeAll as all
 use Rattle.trees.specs.TreeFirst.{TreeFirstSearched}
@@ -16,31 +16,28 @@ use Rattle.trees.specs.TreeFirst as one
 
 -- ---- the paper tells the answers apart
 
+-- on paper a refused search is none that completed
+refused-not-completed {ℓ} :
+    {A : Type ℓ} {w p x : ℕ} {us : List ℕ} {m k n c : ℕ} → counted (refusal w p x) m k ≡ counted (success us) n c → A
+refused-not-completed e = refusal-not-success (ap said e)
+
 -- answers of the search for all matches that are the same on paper are the same
 listed-of-paper : (r s : TreeListed) → all.paper r ≡ all.paper s → r ≡ s
-listed-of-paper (listed.Refused a) (listed.Refused b) e = ap listed.Refused (on-paper-unique a b e)
-listed-of-paper (listed.Refused a) (listed.Found n v w) e = refusal-not-success e
-listed-of-paper (listed.Found n v w) (listed.Refused b) e = refusal-not-success (sym e)
+listed-of-paper (listed.Refused a) (listed.Refused b) e = ap listed.Refused (on-paper-unique a b (ap said e))
+listed-of-paper (listed.Refused a) (listed.Found n v w) e = refused-not-completed e
+listed-of-paper (listed.Found n v w) (listed.Refused b) e = refused-not-completed (sym e)
 listed-of-paper (listed.Found n v w) (listed.Found n' v' w') e = cc
-
--- on paper a search that found a rule is none that found no rule
-some-not-none {ℓ} :
-    {A : Type ℓ} (n : ℕ) {v w v' w' : ℕ} → success ((n + 1) ∷ v ∷ w ∷ []) ≡ success (0 ∷ v' ∷ w' ∷ []) → A
-some-not-none n e = let z : n + 1 ≡ 0 = cc in absurd (omega arith)
 
 -- answers of the search for the first match that are the same on paper are the same
 first-of-paper : (r s : TreeFirst) → one.paper r ≡ one.paper s → r ≡ s
-first-of-paper (first.Refused a) (first.Refused b) e = ap first.Refused (on-paper-unique a b e)
-first-of-paper (first.Refused a) (first.Rule n v w) e = refusal-not-success e
-first-of-paper (first.Refused a) (first.NoRule v w) e = refusal-not-success e
-first-of-paper (first.Rule n v w) (first.Refused b) e = refusal-not-success (sym e)
-first-of-paper (first.Rule n v w) (first.Rule n' v' w') e =
-    let m : n + 1 ≡ n' + 1 = cc in
-    let p : n ≡ n' = omega arith in
-    cc
-first-of-paper (first.Rule n v w) (first.NoRule v' w') e = some-not-none n e
-first-of-paper (first.NoRule v w) (first.Refused b) e = refusal-not-success (sym e)
-first-of-paper (first.NoRule v w) (first.Rule n' v' w') e = some-not-none n' (sym e)
+first-of-paper (first.Refused a) (first.Refused b) e = ap first.Refused (on-paper-unique a b (ap said e))
+first-of-paper (first.Refused a) (first.Rule n v w) e = refused-not-completed e
+first-of-paper (first.Refused a) (first.NoRule v w) e = refused-not-completed e
+first-of-paper (first.Rule n v w) (first.Refused b) e = refused-not-completed (sym e)
+first-of-paper (first.Rule n v w) (first.Rule n' v' w') e = cc
+first-of-paper (first.Rule n v w) (first.NoRule v' w') e = cc
+first-of-paper (first.NoRule v w) (first.Refused b) e = refused-not-completed (sym e)
+first-of-paper (first.NoRule v w) (first.Rule n' v' w') e = cc
 first-of-paper (first.NoRule v w) (first.NoRule v' w') e = cc
 
 -- ---- each call

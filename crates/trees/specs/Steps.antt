@@ -15,10 +15,11 @@ use Rattle.facts.specs.Lists.{keep, written, allUnder}
 use Rattle.refusals.specs.declared.Refusal.{Refusal}
 use Rattle.refusals.specs.declared.Verdict.the-variants as verdict
 use Rattle.refusals.specs.Paper.{success}
-use Rattle.refusals.specs.Order.{roomVerdict, _giving_, leaving}
+use Rattle.refusals.specs.Order.{roomVerdict, leaving}
 use Rattle.fields.specs.Words.{fieldCount}
 use Rattle.rules.specs.Words.{ruleCount}
 use Rattle.rules.specs.Matching.{matches}
+use Rattle.rules.specs.LineFirst.{firstOf}
 use Rattle.trees.specs.declared.walk.Walked.{Walked}
 use Rattle.trees.specs.declared.walk.Walked.the-variants.{Lost, Came}
 use Rattle.trees.specs.declared.search.Reached.{Reached}
@@ -28,6 +29,7 @@ use Rattle.trees.specs.declared.search.TreeFirst.{TreeFirst}
 use Rattle.trees.specs.Words.{nodeWord, startOf, countOf}
 use Rattle.trees.specs.Walk.{Walk, lost, came, walkOf, leafOf, visited}
 use Rattle.trees.specs.Search.{leafVerdict, treeVerdict, lookedAt}
+use Rattle.trees.specs.Counted.{counted, counting}
 use Rattle.trees.specs.TreeAll as all
 use Rattle.trees.specs.TreeFirst as first
 
@@ -69,8 +71,8 @@ pub record Kept (rs h l before : List ℕ) (n : ℕ) (after : List ℕ) : Type 0
 pub record LeafListed (rs h l : List ℕ) (seen : ℕ) (before : List ℕ) (r : TreeListed) (after : List ℕ) : Type 0 where
   pub answers :
       all.paper r ≡
-      (roomVerdict (length (keep (matches rs h) l)) (length before) giving
-      (length (keep (matches rs h) l) ∷ seen ∷ length l ∷ []))
+      counting (roomVerdict (length (keep (matches rs h) l)) (length before)) (length (keep (matches rs h) l) ∷ []) seen
+      (length l)
   pub leaves :
       after ≡
       leaving (roomVerdict (length (keep (matches rs h) l)) (length before)) (written (keep (matches rs h) l) before)
@@ -79,4 +81,4 @@ pub record LeafListed (rs h l : List ℕ) (seen : ℕ) (before : List ℕ) (r : 
 pub record LeafFirst (rs h l : List ℕ) (seen : ℕ) (r : TreeFirst) : Type 0 where
   pub answers :
       first.paper r ≡
-      success (first.firstOf (keep (matches rs h) l) ∷ seen ∷ length (lookedAt (matches rs h) l) ∷ [])
+      counted (success (firstOf (keep (matches rs h) l))) seen (length (lookedAt (matches rs h) l))

@@ -1,5 +1,5 @@
 -- The tree search for all matches. Definitions only.
---   paper                an answer of the search, on paper: numbers written, nodes visited, entries compared
+--   paper                an answer of the search, on paper: how many numbers it wrote, and its counts
 --   treeAllVerdict       3, 6, 7, then 4 where the room is less than the number of matches
 --   treeAll              what the search says; it compares every entry of the leaf
 --   treeAllWords         the lent output after it: the matching entries in front, the rest as found
@@ -10,25 +10,26 @@ use mathlib.Core.List.{List, [], _∷_}
 use lib.ListN.{length}
 use Rattle.facts.specs.Lists.{written}
 use Rattle.refusals.specs.declared.Verdict.{Verdict}
-use Rattle.refusals.specs.Paper.{Paper, success, onPaper}
-use Rattle.refusals.specs.Order.{roomVerdict, _then_, _giving_, leaving}
+use Rattle.refusals.specs.Paper.{success, onPaper}
+use Rattle.refusals.specs.Order.{roomVerdict, _then_, leaving}
 use Rattle.trees.specs.declared.search.TreeListed.{TreeListed}
 use Rattle.trees.specs.declared.search.TreeListed.the-variants.{Refused, Found}
 use Rattle.trees.specs.Walk.{walkOf, visited}
 use Rattle.trees.specs.Search.{treeVerdict, leafList, treeList}
+use Rattle.trees.specs.Counted.{Counted, counted, counting}
 
-abbrev pub paper : TreeListed → Paper
-paper (Refused why) = onPaper why
-paper (Found count nodes compared) = success (count ∷ nodes ∷ compared ∷ [])
+abbrev pub paper : TreeListed → Counted
+paper (Refused why) = counted (onPaper why) 0 0
+paper (Found count nodes compared) = counted (success (count ∷ [])) nodes compared
 
 unfoldable pub treeAllVerdict : List ℕ → List ℕ → List ℕ → List ℕ → ℕ → Verdict
 treeAllVerdict rs nodes pool h room =
     treeVerdict rs nodes pool h then roomVerdict (length (treeList rs nodes pool h)) room
 
-unfoldable pub treeAll : List ℕ → List ℕ → List ℕ → List ℕ → ℕ → Paper
+unfoldable pub treeAll : List ℕ → List ℕ → List ℕ → List ℕ → ℕ → Counted
 treeAll rs nodes pool h room =
-    treeAllVerdict rs nodes pool h room giving
-    (length (treeList rs nodes pool h) ∷ visited (walkOf nodes h) ∷ length (leafList nodes pool h) ∷ [])
+    counting (treeAllVerdict rs nodes pool h room) (length (treeList rs nodes pool h) ∷ [])
+    (visited (walkOf nodes h)) (length (leafList nodes pool h))
 
 unfoldable pub treeAllWords : List ℕ → List ℕ → List ℕ → List ℕ → List ℕ → List ℕ
 treeAllWords rs nodes pool h found =

@@ -1,8 +1,7 @@
 -- `exports::rule_text::wick_rules_read` meets its contract: what the reader answers, as eight words, and what it
 -- leaves. Assumes nothing.
-use mathlib.Core.Path.{ap, _∙_}
 use borrow.Author.Needs.{needs}
-use Rattle.exports.specs.Answers.{eight}
+use Rattle.exports.proofs.Answers.{answered-left}
 use Rattle.exports.proofs.rule_text.wick_rules_read.Statement.{statement}
 use Rattle.exports.proofs.rule_text.wick_rules_read.Tie as tie
 
@@ -18,7 +17,7 @@ same-length c = search needs
 returns : tie.Need-returns
 returns c =
     let said = c .before .before .before .read-rules .ensures in
-    record { answers = c .of-read .ensures ∙ ap eight (said .answers); leaves = said .leaves }
+    answered-left (λ p. p) (c .of-read .ensures) (said .answers) (said .leaves)
 
 pub wick-rules-read-spec : {M : Type 1} → statement M
 wick-rules-read-spec =

@@ -1,8 +1,7 @@
 -- `exports::rule_text::wick_rules_write` meets its contract: what the writer answers, as eight words, and what it
 -- leaves. Assumes nothing.
-use mathlib.Core.Path.{ap, _∙_}
 use borrow.Author.Needs.{needs}
-use Rattle.exports.specs.Answers.{eight}
+use Rattle.exports.proofs.Answers.{answered-left}
 use Rattle.exports.proofs.rule_text.wick_rules_write.Statement.{statement}
 use Rattle.exports.proofs.rule_text.wick_rules_write.Tie as tie
 
@@ -18,7 +17,7 @@ same-length c = search needs
 returns : tie.Need-returns
 returns c =
     let said = c .before .before .before .write-rules .ensures in
-    record { answers = c .of-written .ensures ∙ ap eight (said .answers); leaves = said .leaves }
+    answered-left (λ p. p) (c .of-written .ensures) (said .answers) (said .leaves)
 
 pub wick-rules-write-spec : {M : Type 1} → statement M
 wick-rules-write-spec =

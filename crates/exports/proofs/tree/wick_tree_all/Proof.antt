@@ -1,8 +1,8 @@
 -- `exports::tree::wick_tree_all` meets its contract: what the tree search answers, as eight words, and what it leaves.
 -- Assumes nothing.
-use mathlib.Core.Path.{ap, _∙_}
 use borrow.Author.Needs.{needs}
-use Rattle.exports.specs.Answers.{eight}
+use Rattle.exports.specs.Answers.{allInWords}
+use Rattle.exports.proofs.Answers.{answered-left}
 use Rattle.exports.proofs.tree.wick_tree_all.Statement.{statement}
 use Rattle.exports.proofs.tree.wick_tree_all.Tie as tie
 
@@ -18,7 +18,7 @@ same-length c = search needs
 returns : tie.Need-returns
 returns c =
     let said = c .before .before .before .tree-all .ensures in
-    record { answers = c .of-listed .ensures ∙ ap eight (said .answers); leaves = said .leaves }
+    answered-left allInWords (c .of-listed .ensures) (said .answers) (said .leaves)
 
 pub wick-tree-all-spec : {M : Type 1} → statement M
 wick-tree-all-spec = tie.close (tie.spec tree-all-requires of-listed-requires same-length returns)

@@ -1,8 +1,7 @@
 -- `exports::tree_text::wick_tree_read` meets its contract: what the reader answers, as eight words, and what it
 -- leaves. Assumes nothing.
-use mathlib.Core.Path.{ap, _∙_}
 use borrow.Author.Needs.{needs}
-use Rattle.exports.specs.Answers.{eight}
+use Rattle.exports.proofs.Answers.{answered-both}
 use Rattle.exports.proofs.tree_text.wick_tree_read.Statement.{statement}
 use Rattle.exports.proofs.tree_text.wick_tree_read.Tie as tie
 
@@ -21,11 +20,7 @@ same-length-2 c = search needs
 returns : tie.Need-returns
 returns c =
     let said = c .before .before .before .before .before .read-tree .ensures in
-    record {
-      answers = c .of-read .ensures ∙ ap eight (said .answers);
-      leaves-nodes = said .leaves-nodes;
-      leaves-pool = said .leaves-pool;
-    }
+    answered-both (λ p. p) (c .of-read .ensures) (said .answers) (said .leaves-nodes) (said .leaves-pool)
 
 pub wick-tree-read-spec : {M : Type 1} → statement M
 wick-tree-read-spec =

@@ -1,8 +1,7 @@
 -- `exports::tree_text::wick_tree_write` meets its contract: what the writer answers, as eight words, and what it
 -- leaves. Assumes nothing.
-use mathlib.Core.Path.{ap, _∙_}
 use borrow.Author.Needs.{needs}
-use Rattle.exports.specs.Answers.{eight}
+use Rattle.exports.proofs.Answers.{answered-left}
 use Rattle.exports.proofs.tree_text.wick_tree_write.Statement.{statement}
 use Rattle.exports.proofs.tree_text.wick_tree_write.Tie as tie
 
@@ -18,7 +17,7 @@ same-length c = search needs
 returns : tie.Need-returns
 returns c =
     let said = c .before .before .before .write-tree .ensures in
-    record { answers = c .of-written .ensures ∙ ap eight (said .answers); leaves = said .leaves }
+    answered-left (λ p. p) (c .of-written .ensures) (said .answers) (said .leaves)
 
 pub wick-tree-write-spec : {M : Type 1} → statement M
 wick-tree-write-spec =

@@ -6,7 +6,7 @@ use Rattle.rules.proofs.Meaning.{matches-iff-inside}
 use Rattle.rules.proofs.Listing.{listed-iff-matches, matching-rises, head-is-lowest}
 use Rattle.tree_check.specs.Serves.{Serves}
 use Rattle.tree_check.proofs.Accepts.{accepts-iff-serves}
-use Rattle.tree_check.proofs.Searches.{refuses-none, same-list, same-verdict, same-words}
+use Rattle.tree_check.proofs.Searches.{refuses-none, same-list, same-verdict, same-words, same-first}
 use Rattle.text.specs.Text.{good}
 use Rattle.rule_file.proofs.Back.{read-of-written as rules-back}
 use Rattle.rule_file.proofs.Exact.{written-of-read as rules-exact, read-below}
@@ -31,6 +31,7 @@ by-tree-claim rs nodes pool s =
     record {
       refuses = same-verdict rs nodes pool ok;
       leaves = same-words rs nodes pool ok;
+      first = same-first rs nodes pool ok;
       completes = refuses-none rs nodes pool ok;
       lists = same-list rs nodes pool ok;
     }

@@ -15,8 +15,11 @@ use Rattle.rules.specs.Words.{ruleCount}
 use Rattle.rules.specs.Good.{good, listVerdict}
 use Rattle.rules.specs.Matching.{matches, matching, ruleBox}
 use Rattle.rules.specs.LineAll.{allVerdict, lineAllWords}
+use Rattle.rules.specs.LineFirst.{lineFirst}
 use Rattle.trees.specs.Search.{treeVerdict, treeList}
+use Rattle.trees.specs.Counted.{said}
 use Rattle.trees.specs.TreeAll.{treeAllVerdict, treeAllWords}
+use Rattle.trees.specs.TreeFirst.{treeFirst}
 use Rattle.tree_check.specs.Serves.{Serves}
 use Rattle.text.specs.Line.{AllBelow}
 use Rattle.text.specs.Text as text
@@ -36,11 +39,13 @@ pub record Matching : Type 0 where
       (rs : List ℕ) (r : ℕ) → good rs r ≡ true → (h : List ℕ) →
       (matches rs h r ≡ true) ↔ Inside fieldCount (ruleBox rs r) h
 
--- by a tree that serves the list, any header and room are refused as by the list and leave the same words; a legal
--- header completes both searches, and the matches of its leaf, of which they give all or the first, are the list's
+-- by a tree that serves the list, any header and room are refused as by the list and leave the same words, and of any
+-- header the first match, or the refusal, is the list's; a legal header completes both searches, and the matches of its
+-- leaf, of which they give all or the first, are the list's
 pub record ByTree (rs nodes pool : List ℕ) (serves : Serves rs nodes pool) : Type 0 where
   pub refuses : (h : List ℕ) (room : ℕ) → treeAllVerdict rs nodes pool h room ≡ allVerdict rs h room
   pub leaves : (h found : List ℕ) → treeAllWords rs nodes pool h found ≡ lineAllWords rs h found
+  pub first : (h : List ℕ) → said (treeFirst rs nodes pool h) ≡ lineFirst rs h
   pub completes : (h : List ℕ) → Legal h → treeVerdict rs nodes pool h ≡ Fine
   pub lists : (h : List ℕ) → Legal h → treeList rs nodes pool h ≡ matching rs h
 

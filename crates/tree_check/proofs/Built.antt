@@ -19,7 +19,7 @@ use Rattle.tree_check.specs.declared.preorder.Part.{Part}
 use Rattle.tree_check.specs.declared.preorder.Part.the-variants.{Refused, Good}
 use Rattle.tree_check.specs.Preorder.{lackOf, earlier, afterLeft, leafPart, partOf}
 use Rattle.tree_check.specs.Leads.{leftBox, rightBox, Divides}
-use Rattle.tree_check.proofs.NotLack.{NotLack}
+use Rattle.tree_check.proofs.NotLack.{Malformed, six, seven}
 use Rattle.tree_check.proofs.Parts.{part-missing, leaf-rising, leaf-not-rising, part-leaf, part-deep}
 use Rattle.tree_check.proofs.Parts.{part-undivided, part-divided}
 
@@ -37,9 +37,9 @@ pub data Built (rs nodes pool : List ℕ) : ℕ → List (List ℕ) → ℕ → 
       Built rs nodes pool (suc k) b i e (max c₁ c₂ + 1) (max l₁ l₂) (earlier y₁ y₂)
 
 module _ (rs nodes pool : List ℕ) where
-  -- what is said of a part: it is built so, or refused, and then not because a leaf lacks a rule
+  -- what is said of a part: it is built so, or refused with 6 or 7
   abbrev BuiltSo : ℕ → List (List ℕ) → ℕ → Part → Type 0
-  BuiltSo k b i (Refused why) = NotLack why
+  BuiltSo k b i (Refused why) = Malformed why
   BuiltSo k b i (Good e c l y) = Built rs nodes pool k b i e c l y
 
   leaf-built :
@@ -51,7 +51,7 @@ module _ (rs nodes pool : List ℕ) where
           (rises 0 (entries nodes pool i) ≡ true) ⊎ (rises 0 (entries nodes pool i) ≡ false) →
           BuiltSo k b i (leafPart rs nodes pool b i)
       go (inl t) = rw (leaf-rising rs nodes pool b i t) (ofLeaf a f t)
-      go (inr t) = rw (leaf-not-rising rs nodes pool b i t) tt
+      go (inr t) = rw (leaf-not-rising rs nodes pool b i t) seven
 
   -- a cut after its left part, and then after its right
   cut-built :
@@ -65,7 +65,7 @@ module _ (rs nodes pool : List ℕ) where
       go :
           (t : Bool) → eqb (childOf nodes i) m ≡ t → (x : Part) → right m ≡ x → BuiltSo k (rightBox nodes b i) m x →
           BuiltSo (suc k) b i (afterLeft i (childOf nodes i) (Good m c l y) right)
-      go false t x q s = rw t tt
+      go false t x q s = rw t six
       go true t (Refused why) q s = rw (t, q) s
       go true t (Good e c' l' y') q s =
           rw (t, q)
@@ -80,7 +80,7 @@ module _ (rs nodes pool : List ℕ) where
       go :
           (t : Bool) → divides b (fieldOf nodes i) (valueOf nodes i) ≡ t →
           BuiltSo (suc k) b i (partOf (suc k) rs nodes pool b i)
-      go false t = rw (part-undivided rs nodes pool b i a f k t) tt
+      go false t = rw (part-undivided rs nodes pool b i a f k t) six
       go true t =
           let u = divides-iff b (fieldOf nodes i) (valueOf nodes i) .0 t in
           rw (part-divided rs nodes pool b i a f k t)
@@ -92,16 +92,16 @@ module _ (rs nodes pool : List ℕ) where
   part-built zero b i = go (split (nodeCount nodes) i) (split leafMark (fieldOf nodes i))
     where
       go : Split (nodeCount nodes) i → Split leafMark (fieldOf nodes i) → BuiltSo 0 b i (partOf 0 rs nodes pool b i)
-      go (atMost a) s = rw (part-missing rs nodes pool b i 0 a) tt
+      go (atMost a) s = rw (part-missing rs nodes pool b i 0 a) six
       go (over a) (atMost f) = rw (part-leaf rs nodes pool b i a 0 f) (leaf-built 0 b i a f)
-      go (over a) (over f) = rw (part-deep rs nodes pool b i a f) tt
+      go (over a) (over f) = rw (part-deep rs nodes pool b i a f) six
   part-built (suc k) b i = go (split (nodeCount nodes) i) (split leafMark (fieldOf nodes i)) (λ d j. part-built k d j)
     where
       go :
           Split (nodeCount nodes) i → Split leafMark (fieldOf nodes i) →
           ((d : List (List ℕ)) (j : ℕ) → BuiltSo k d j (partOf k rs nodes pool d j)) →
           BuiltSo (suc k) b i (partOf (suc k) rs nodes pool b i)
-      go (atMost a) s r = rw (part-missing rs nodes pool b i (suc k) a) tt
+      go (atMost a) s r = rw (part-missing rs nodes pool b i (suc k) a) six
       go (over a) (atMost f) r = rw (part-leaf rs nodes pool b i a (suc k) f) (leaf-built (suc k) b i a f)
       go (over a) (over f) r = divided-built k b i a f r
 
@@ -111,10 +111,10 @@ module _ (rs nodes pool : List ℕ) where
       Built rs nodes pool k b i e c l y
   built {k} {b} {i} q = subst (λ (p : Part). BuiltSo k b i p) q (part-built k b i)
 
-  -- a part is never refused because a leaf lacks a rule
-  pub part-not-lack :
-      (k : ℕ) (b : List (List ℕ)) (i : ℕ) (why : Refusal) → partOf k rs nodes pool b i ≡ Refused why → NotLack why
-  part-not-lack k b i why q = subst (λ (p : Part). BuiltSo k b i p) q (part-built k b i)
+  -- a part that is refused is refused with 6 or 7
+  pub part-malformed :
+      (k : ℕ) (b : List (List ℕ)) (i : ℕ) (why : Refusal) → partOf k rs nodes pool b i ≡ Refused why → Malformed why
+  part-malformed k b i why q = subst (λ (p : Part). BuiltSo k b i p) q (part-built k b i)
 
 module _ {rs nodes pool : List ℕ} where
   -- no leaf of a built part lies under more cuts than are allowed

@@ -1,4 +1,5 @@
 -- Laws of the tree check: the check of a part, node by node, and what it accepts.
+pub mod Only
 pub mod NotLack
 pub mod Parts
 pub mod Looking
@@ -21,4 +22,6 @@ pub mod Searches
 pub mod OneLack
 pub mod Eight
 pub mod Answers
+pub mod Answering
+pub mod Malformed
 pub mod Unique

@@ -9,7 +9,7 @@ use Rattle.refusals.specs.declared.Verdict.{Verdict}
 use Rattle.refusals.specs.declared.Verdict.the-variants.{Fine, Refused}
 use Rattle.refusals.specs.Paper.{success}
 use Rattle.refusals.specs.Order.{roomVerdict, _then_}
-use Rattle.refusals.proofs.Order.{holds-fine, then-fine, then-refused, giving-fine, leaving-refused}
+use Rattle.refusals.proofs.Order.{holds-fine, then-fine, then-refused, giving-fine, giving-refused, leaving-refused}
 use Rattle.fields.specs.Headers.{headerVerdict, Legal}
 use Rattle.rules.specs.Words.{ruleCount}
 use Rattle.rules.specs.Good.{listVerdict}
@@ -19,11 +19,11 @@ use Rattle.rules.specs.LineFirst.{firstOf, lineFirst}
 use Rattle.trees.specs.Words.{startOf, countOf, entries}
 use Rattle.trees.specs.Walk.{Walk, walkOf, leafOf, visited}
 use Rattle.trees.specs.Search.{walkVerdict, leafVerdict, treeVerdict, leafList, treeList, lookedAt}
-use Rattle.trees.specs.Counted.{counted, counting}
+use Rattle.trees.specs.Counted.{counted, said, counting}
 use Rattle.trees.specs.TreeAll.{treeAllVerdict, treeAll, treeAllWords}
 use Rattle.trees.specs.TreeFirst.{treeFirst}
 use Rattle.trees.specs.Spelt.{SpeltLeaf}
-use Rattle.trees.proofs.Counting.{counting-fine}
+use Rattle.trees.proofs.Counting.{counting-refused, counting-fine}
 use Rattle.tree_check.specs.declared.preorder.Lack.{Lack}
 use Rattle.tree_check.specs.TreeCheck.{checkVerdict}
 use Rattle.tree_check.proofs.Comes.{Formed, finds, leaf-of, comes}
@@ -109,3 +109,14 @@ module _ (rs nodes pool : List ℕ) (ok : checkVerdict rs nodes pool ≡ Fine) w
         (length (lookedAt (matches rs h) (leafList nodes pool h)))
     unfolding treeFirst
     tree-first-is = counting-fine _ _ _ (refuses-none h k) ∙ rw (same-list h k)
+
+  -- of any header the search for the first match says what the line search says
+  pub same-first : (h : List ℕ) → said (treeFirst rs nodes pool h) ≡ lineFirst rs h
+  unfolding treeFirst treeVerdict lineFirst
+  same-first h = go (headerVerdict h) refl
+    where
+      go : (v : Verdict) → headerVerdict h ≡ v → said (treeFirst rs nodes pool h) ≡ lineFirst rs h
+      go Fine k = ap said (tree-first-is h k) ∙ sym (line-first-is h k)
+      go (Refused why) k =
+          ap said (counting-refused _ _ _ (then-refused _ k)) ∙
+          sym (giving-refused _ (then-fine _ (accepted rs nodes pool ok .2 .list) ∙ k))

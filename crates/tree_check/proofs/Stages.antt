@@ -9,23 +9,23 @@ use Rattle.refusals.specs.declared.Refusal.{Refusal}
 use Rattle.refusals.specs.declared.Refusal.the-variants.{NodeWrong}
 use Rattle.refusals.specs.declared.Verdict.{Verdict}
 use Rattle.refusals.specs.declared.Verdict.the-variants as verdict
-use Rattle.refusals.specs.Order.{refuseUnless}
 use Rattle.refusals.proofs.Order.{holds-fine, fine-iff-holds, then-fine}
 use Rattle.fields.specs.Boxes.{rootBox}
 use Rattle.rules.specs.Words.{ruleCount}
 use Rattle.rules.specs.Good.{listVerdict}
 use Rattle.rules.proofs.Lists.{fine-iff-good}
 use Rattle.trees.specs.Words.{nodeCount, sizeVerdict}
-use Rattle.trees.specs.Spelt.{Spelt, speltVerdict}
+use Rattle.trees.specs.Spelt.{Spelt}
 use Rattle.trees.proofs.Spelling.{spelt-fine-iff}
 use Rattle.tree_check.specs.declared.preorder.Lack.{Lack}
 use Rattle.tree_check.specs.declared.preorder.Part.{Part}
 use Rattle.tree_check.specs.declared.preorder.Part.the-variants.{Refused, Good}
 use Rattle.tree_check.specs.Whole.{mostCuts, WellFormed}
 use Rattle.tree_check.specs.TreeCheck.{rootPart, lackVerdict, partVerdict, checkVerdict}
-use Rattle.tree_check.proofs.NotLack.{NotLack, Last, not-last, then-last}
-use Rattle.tree_check.proofs.NotLack.{unless-no-lack, list-no-lack, sizes-no-lack, spelt-no-lack}
-use Rattle.tree_check.proofs.Built.{built, part-not-lack}
+use Rattle.tree_check.proofs.Only.{unless-only}
+use Rattle.tree_check.proofs.NotLack.{Malformed, not-lack-of-malformed, Last, not-last, then-last}
+use Rattle.tree_check.proofs.NotLack.{list-no-lack, sizes-no-lack, spelt-no-lack}
+use Rattle.tree_check.proofs.Built.{built, part-malformed}
 use Rattle.tree_check.proofs.Formed.{whole-of-built, accepts-of-whole}
 use Rattle.tree_check.proofs.Comes.{Formed}
 
@@ -37,11 +37,11 @@ pub record Reached (rs nodes pool : List ℕ) (c l : ℕ) (y : Lack) : Type 0 wh
   pub root : rootPart rs nodes pool ≡ Good (nodeCount nodes) c l y
 
 part-last :
-    (m : ℕ) (p : Part) {u : Verdict} → ((why : Refusal) → p ≡ Refused why → NotLack why) → Last u →
+    (m : ℕ) (p : Part) {u : Verdict} → ((why : Refusal) → p ≡ Refused why → Malformed why) → Last u →
     partVerdict m p ≡ u → (c : ℕ) × (l : ℕ) × (y : Lack) × (p ≡ Good m c l y) × (lackVerdict y ≡ u)
-part-last m (Refused why) n l e = not-last (n why refl) l e
+part-last m (Refused why) n l e = not-last (not-lack-of-malformed why (n why refl)) l e
 part-last m (Good next c l' y) n l e =
-    let t = then-last (refuseUnless (eqb next m) (NodeWrong next)) (unless-no-lack _ (NodeWrong next) tt) l e in
+    let t = then-last (unless-only (eqb next m) (NodeWrong next) tt) l e in
     let q : next ≡ m = eqb-true next m (fine-iff-holds _ _ .0 (t .0)) in
     (c, l', y, ap (λ (k : ℕ). Good k c l' y) q, t .1)
 
@@ -53,10 +53,10 @@ module _ (rs nodes pool : List ℕ) where
   unfolding checkVerdict rootPart
   reached last e =
       let n = ruleCount rs in
-      let s = then-last (listVerdict rs) (list-no-lack rs) last e in
-      let t = then-last (sizeVerdict nodes pool) (sizes-no-lack nodes pool) last (s .1) in
-      let u = then-last (speltVerdict n nodes pool) (spelt-no-lack n nodes pool) last (t .1) in
-      let whys = part-not-lack rs nodes pool mostCuts rootBox 0 in
+      let s = then-last (list-no-lack rs) last e in
+      let t = then-last (sizes-no-lack nodes pool) last (s .1) in
+      let u = then-last (spelt-no-lack n nodes pool) last (t .1) in
+      let whys = part-malformed rs nodes pool mostCuts rootBox 0 in
       let v = part-last (nodeCount nodes) (rootPart rs nodes pool) whys last (u .1) in
       let spelt = spelt-fine-iff n nodes pool .0 (u .0) in
       (v .0, v .1, v .2, record { list = s .0; sizes = t .0; spelt = spelt; root = v .3 }, v .4)

@@ -6,4 +6,5 @@ pub mod Serves
 pub mod Leads
 pub mod Lacks
 pub mod Figures
+pub mod Answering
 pub mod Steps

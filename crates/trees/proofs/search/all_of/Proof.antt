@@ -18,7 +18,7 @@ enum-told c = search needs
 
 write-entries-requires : tie.Need-write-entries-requires
 write-entries-requires c κs = (
-  c .before .before .before .before .before .before .before .before .pre,
+  search needs,
   room-fine-iff _ _ .0 (sym (c .before .before .before .room-verdict .ensures) ∙ c .before .enum-told .given .1),
 )
 

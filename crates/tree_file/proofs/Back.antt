@@ -24,7 +24,7 @@ use Rattle.text.proofs.Counted.{line-counted}
 use Rattle.tree_file.specs.TreeText.{tree, State, start, within, over, headTest, cutTest, leafTest, endTest, step}
 use Rattle.tree_file.specs.TreeLines.{cutNumbers, leafNumbers, leafMarks, nodeLine, headLine, endLine, Spelling}
 use Rattle.tree_file.proofs.Growing.{cut-line, leaf-line}
-use Rattle.tree_file.proofs.Spelling.{tabs-part, words-step, sizes-of, spelt-of, whole-nodes, one-node}
+use Rattle.tree_file.proofs.Spelling.{tabs-part, words-step, sizes-of, whole-nodes, one-node}
 use Rattle.tree_file.proofs.Spelling.{few-nodes, entries-under, entries-count, cut-below, leaf-below}
 
 -- a leaf line is no cut line
@@ -65,7 +65,7 @@ module _ {n : ℕ} {ws es : List ℕ} (g : Spelling n ws es) (b : AllBelow (2 ^ 
         le-ltb m m (omega arith),
         read,
         take-all (m * nodeWords) ws (omega (arith, whole-nodes g)),
-        take-all (countsBelow ws m) es (omega (arith, spelt-of g .total)),
+        take-all (countsBelow ws m) es (omega (arith, g .spelt .total)),
         eq-eqb (length es) (length es) refl,
         eq-eqb (m + 1) (m + 1) refl,
       )
@@ -85,14 +85,14 @@ module _ {n : ℕ} {ws es : List ℕ} (g : Spelling n ws es) (b : AllBelow (2 ^ 
           read,
           eq-eqb i i refl,
           lt-ltb (fieldOf ws i) leafMark l,
-          lt-ltb (childOf ws i) m (spelt-of g .child i h l),
+          lt-ltb (childOf ws i) m (g .spelt .child i h l),
           words-step ws i (omega (arith, whole-nodes g)),
           same,
         )
 
     module _ (l : leafMark ≤ fieldOf ws i) where
       s : SpeltLeaf n ws es i
-      s = spelt-of g .leaf i h l
+      s = g .spelt .leaf i h l
 
       -- the entries before this leaf are as many as its start says
       before : length (take (countsBelow ws i) es) ≡ startOf ws i
@@ -103,7 +103,7 @@ module _ {n : ℕ} {ws es : List ℕ} (g : Spelling n ws es) (b : AllBelow (2 ^ 
           take (i * nodeWords) ws ++ (leafMark ∷ length (take (countsBelow ws i) es) ∷ countOf ws i ∷ []) ≡
           take ((i + 1) * nodeWords) ws
       leaf-words =
-          let mark : fieldOf ws i ≡ leafMark = omega (arith, spelt-of g .first i h) in
+          let mark : fieldOf ws i ≡ leafMark = omega (arith, g .spelt .first i h) in
           rw (before, ← mark) (words-step ws i (omega (arith, whole-nodes g)))
 
       -- the entries up to this leaf, and its own

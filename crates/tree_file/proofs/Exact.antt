@@ -14,7 +14,6 @@ use Rattle.facts.proofs.Setting.{cells}
 use Rattle.trees.specs.Words.{nodeCount}
 use Rattle.trees.specs.Spelt.{countsBelow, Spelt}
 use Rattle.trees.proofs.Sizes.{Sizes, sizes-fine-iff}
-use Rattle.trees.proofs.Spelling.{spelt-fine-iff}
 use Rattle.text.specs.Words.{newline, treeWord, cutWord, leafWord, endWord, oneTab, threeTabs, fourTabs}
 use Rattle.text.specs.Line.{readLine, readCounted, printLine}
 use Rattle.text.specs.Text.{Text, whole, split, good, readAll}
@@ -63,7 +62,7 @@ module _ {n m p i : ℕ} {ws es t : List ℕ} (w : Mid n m p i ws es t) (l : Lis
         record {
           few = few-of n m p (w .limits) .rules;
           sizes = sizes-fine-iff ws es .1 sizes-hold;
-          spelt = spelt-fine-iff n ws es .1 nodes-spelt;
+          spelt = nodes-spelt;
         }
 
     -- with the end line the text is that of these words

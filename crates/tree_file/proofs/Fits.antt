@@ -14,7 +14,7 @@ use Rattle.text.proofs.Texts.{unlines-more}
 use Rattle.tree_file.specs.TreeLines.{cutNumbers, leafNumbers, leafMarks, nodeLine, nodeLines, headLine, endLine}
 use Rattle.tree_file.specs.TreeLines.{treeText, Spelling}
 use Rattle.tree_file.proofs.Growing.{cut-line, leaf-line}
-use Rattle.tree_file.proofs.Spelling.{sizes-of, spelt-of, few-nodes, entries-count, cut-below, leaf-below}
+use Rattle.tree_file.proofs.Spelling.{sizes-of, few-nodes, entries-count, cut-below, leaf-below}
 
 abbrev nodeMost : ℕ
 nodeMost = 2 ^ 44
@@ -26,7 +26,7 @@ module _ {n : ℕ} {ws es : List ℕ} (g : Spelling n ws es) (b : AllBelow (2 ^ 
     where
       go : Split leafMark (fieldOf ws i) → length (nodeLine ws es i) < nodeMost
       go (atMost l) =
-          let s = spelt-of g .leaf i h l in
+          let s = g .spelt .leaf i h l in
           rw (leaf-line ws es i l)
           (omega (
             arith,

@@ -13,9 +13,8 @@ use Rattle.facts.proofs.Bools.{both}
 use Rattle.facts.proofs.Setting.{cells}
 use Rattle.facts.proofs.Under.{all-under-iff-has}
 use Rattle.trees.specs.Words.{nodeWords, mostNodes, nodeCount, nodeWord, fieldOf, valueOf, childOf, countOf, entries}
-use Rattle.trees.specs.Spelt.{Spelt, SpeltLeaf}
+use Rattle.trees.specs.Spelt.{SpeltLeaf}
 use Rattle.trees.proofs.Sizes.{Sizes, sizes-fine-iff}
-use Rattle.trees.proofs.Spelling.{spelt-fine-iff}
 use Rattle.text.specs.Numbers.{isDigit}
 use Rattle.text.specs.Line.{AllBelow, parting}
 use Rattle.text.proofs.Below.{below-at}
@@ -67,10 +66,6 @@ module _ {n : ℕ} {ws es : List ℕ} (g : Spelling n ws es) where
   pub sizes-of : Sizes ws es
   sizes-of = sizes-fine-iff ws es .0 (g .sizes)
 
-  -- the tree is spelt
-  pub spelt-of : Spelt n ws es
-  spelt-of = spelt-fine-iff n ws es .0 (g .spelt)
-
   -- the words are those of whole nodes
   pub whole-nodes : length ws ≡ nodeCount ws * nodeWords
   whole-nodes = omega (arith, sizes-of .whole)
@@ -89,7 +84,7 @@ module _ {n : ℕ} {ws es : List ℕ} (g : Spelling n ws es) where
       record {
         there = h;
         few = few-nodes;
-        part = λ l. spelt-of .leaf i h l .within;
+        part = λ l. g .spelt .leaf i h l .within;
       }
 
   -- the entries of a leaf are below the number of rules

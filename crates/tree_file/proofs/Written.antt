@@ -18,6 +18,7 @@ use Rattle.refusals.proofs.Order.{room-short, room-fine-iff, giving-refused, gi
 use Rattle.rules.specs.Words.{mostRules}
 use Rattle.trees.specs.Words.{sizeVerdict}
 use Rattle.trees.specs.Spelt.{speltVerdict}
+use Rattle.trees.proofs.Spelling.{spelt-fine-iff}
 use Rattle.text.specs.Puts.{Put}
 use Rattle.text.proofs.Places.{after-few}
 use Rattle.tree_file.specs.declared.write.Written.the-variants as said
@@ -49,11 +50,11 @@ module _ (n : ℕ) (nodes pool : List ℕ) where
   spelling-of-fine e =
       let t = then-fine-iff _ _ .0 e in
       let u = then-fine-iff _ _ .0 (t .1) in
-      record { few = leb-true n mostRules (fine-iff-holds _ _ .0 (t .0)); sizes = u .0; spelt = u .1 }
+      record { few = leb-true n mostRules (fine-iff-holds _ _ .0 (t .0)); sizes = u .0; spelt = spelt-fine-iff n nodes pool .0 (u .1) }
 
   -- a tree that is spelt is not refused
   pub fine-of-spelling : Spelling n nodes pool → treeVerdict n nodes pool ≡ Fine
-  fine-of-spelling g = sym (spelt-decides (g .few) (g .sizes)) ∙ g .spelt
+  fine-of-spelling g = sym (spelt-decides (g .few) (g .sizes)) ∙ spelt-fine-iff n nodes pool .1 (g .spelt)
 
   -- ---- the answers
 

@@ -14,7 +14,7 @@ use lib.ListN.{length, replicate}
 use Rattle.refusals.specs.declared.Verdict.the-variants.{Fine}
 use Rattle.rules.specs.Words.{mostRules}
 use Rattle.trees.specs.Words.{nodeCount, fieldOf, valueOf, childOf, countOf, entries, sizeVerdict}
-use Rattle.trees.specs.Spelt.{isCut, speltVerdict}
+use Rattle.trees.specs.Spelt.{isCut, Spelt}
 use Rattle.text.specs.Words.{tab, treeWord, cutWord, leafWord, endWord, oneTab, threeTabs, fourTabs}
 use Rattle.text.specs.Line.{printLine}
 use Rattle.text.specs.Text.{unlines}
@@ -54,4 +54,4 @@ treeText n nodes pool = unlines (treeLines n nodes pool)
 pub record Spelling (n : ℕ) (nodes pool : List ℕ) : Type 0 where
   pub few : n ≤ mostRules
   pub sizes : sizeVerdict nodes pool ≡ Fine
-  pub spelt : speltVerdict n nodes pool ≡ Fine
+  pub spelt : Spelt n nodes pool

@@ -20,6 +20,7 @@ int sscanf(const char *text, const char *format, ...);
 enum { MOST_RULES = 512, MOST_NODES = 2047, MOST_ENTRIES = 4096, MOST_BYTES = 65536 };
 enum { STANDARD_ERROR = 2 };
 enum { NUMBER, PLACE, EXTRA, A, B, C }; // the words of an answer
+enum { FILE_NOT_READ = 12 };            // the refusal of a file that cannot be read to its end, or is too long
 
 struct policy {
     wick_word rules[10 * MOST_RULES];
@@ -32,7 +33,8 @@ struct policy {
 static struct policy policy;
 static wick_byte text[MOST_BYTES + 1];
 
-// Reads a file of the folder into `text`. Gives its length, or -1 where it cannot be read to its end, or is too long.
+// Reads a file of the folder into `text`. Gives its length, or -1 where it cannot be read to its end, or is too long:
+// it is never taken for an empty or a shorter one.
 static long read_file(const char *folder, const char *name) {
     char path[4096];
     if (snprintf(path, sizeof path, "%s/%s", folder, name) >= (int)sizeof path) return -1;
@@ -51,12 +53,16 @@ static void print_refusal(const wick_count answer[8]) {
     printf("refused with %lu, place %lu, extra %lu\n", answer[NUMBER], answer[PLACE], answer[EXTRA]);
 }
 
+static void print_unread(const char *name) {
+    dprintf(STANDARD_ERROR, "classify: %s cannot be read to its end, or is over %d bytes\n", name, MOST_BYTES);
+}
+
 // Reads the list. Gives 0 where there is none.
 static int load_rules(const char *folder) {
     wick_count answer[8];
     long length = read_file(folder, "rules.txt");
     if (length < 0) {
-        dprintf(STANDARD_ERROR, "classify: rules.txt cannot be read\n");
+        print_unread("rules.txt");
         return 0;
     }
     wick_rules_read(text, length, policy.rules, 10 * MOST_RULES, answer);
@@ -69,11 +75,15 @@ static int load_rules(const char *folder) {
     return 1;
 }
 
-// Reads the tree and checks it. One that cannot be read is as one of no bytes: the list serves.
+// Reads the tree and checks it. Where its file cannot be read, or it is refused, the list serves.
 static void load_tree(const char *folder) {
-    wick_count answer[8];
+    wick_count answer[8] = {FILE_NOT_READ};
     long length = read_file(folder, "tree.txt");
-    wick_tree_read(text, length < 0 ? 0 : length, policy.nodes, 3 * MOST_NODES, policy.pool, MOST_ENTRIES, answer);
+    if (length < 0) {
+        print_unread("tree.txt");
+    } else {
+        wick_tree_read(text, length, policy.nodes, 3 * MOST_NODES, policy.pool, MOST_ENTRIES, answer);
+    }
     if (!answer[NUMBER]) {
         policy.nodes_len = 3 * answer[B];
         policy.pool_len = answer[C];

@@ -4,13 +4,18 @@
 
 #![forbid(unsafe_code)]
 
+use std::env;
 use std::error::Error;
+use std::fs::File;
+use std::io::Read;
 use std::net::Ipv4Addr;
 use std::path::Path;
 use std::process::ExitCode;
-use std::{env, fs};
 
 use wickorchard::{Header, Policy, Refusal};
+
+/// The most bytes of a file. A good one is never longer.
+const MOST_BYTES: usize = 65_536;
 
 fn main() -> ExitCode {
     let words: Vec<String> = env::args().skip(1).collect();
@@ -28,18 +33,35 @@ fn main() -> ExitCode {
 }
 
 fn classify(folder: &Path, fields: &[String]) -> Result<(), Box<dyn Error>> {
-    let mut policy = Policy::read(&fs::read(folder.join("rules.txt"))?)?;
+    let mut policy = Policy::read(&read_file(folder, "rules.txt")?)?;
     println!("{} rules", policy.rule_count());
-    // A tree that is refused, or is not there, is no reason to stop: the list answers the same.
-    match policy.read_tree(&fs::read(folder.join("tree.txt")).unwrap_or_default()) {
-        Ok(figures) => println!("the tree serves: {} cuts, longest leaf {}", figures.cuts, figures.longest_leaf),
-        Err(refusal) => println!("the list serves, since the tree is {refusal}"),
+    // A tree that is refused, or whose file cannot be read, is no reason to stop: the list answers the same.
+    match read_file(folder, "tree.txt").map(|text| policy.read_tree(&text)) {
+        Ok(Ok(figures)) => println!("the tree serves: {} cuts, longest leaf {}", figures.cuts, figures.longest_leaf),
+        Ok(Err(refusal)) => println!("the list serves, since the tree is {refusal}"),
+        Err(error) => {
+            eprintln!("classify: {error}");
+            println!("the list serves, since the tree is refused with 12, place 0, extra 0");
+        }
     }
     for five in fields.chunks(5) {
         let answer = answer(&policy, &header(five)?).unwrap_or_else(|refusal| refusal.to_string());
         println!("{}: {answer}", five.join(" "));
     }
     Ok(())
+}
+
+/// The whole of a file of the folder. One that cannot be read to its end, or is too long, is an error, and never taken
+/// for an empty or a shorter text.
+fn read_file(folder: &Path, name: &str) -> Result<Vec<u8>, Box<dyn Error>> {
+    let mut text = Vec::new();
+    File::open(folder.join(name))
+        .and_then(|file| file.take(MOST_BYTES as u64 + 1).read_to_end(&mut text))
+        .map_err(|error| format!("{name} cannot be read: {error}"))?;
+    if text.len() > MOST_BYTES {
+        return Err(format!("{name} is over {MOST_BYTES} bytes").into());
+    }
+    Ok(text)
 }
 
 fn header(five: &[String]) -> Result<Header, Box<dyn Error>> {

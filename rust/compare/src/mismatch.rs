@@ -7,7 +7,7 @@ use crate::arena::Difference;
 use crate::lender::Silence;
 
 /// The most rules of a list that are written out.
-const SHOWN_RULES: usize = 6;
+const SHOWN_RULES: u64 = 6;
 /// The most nodes of a tree, and the most words of its pool, that are written out.
 const SHOWN_NODES: usize = 40;
 /// The most words of any other slice, and the most differences, that are written out.
@@ -89,16 +89,17 @@ impl Display for Mismatch<'_> {
 }
 
 impl Mismatch<'_> {
-    /// Writes the first rules of the list, and those that either answer names by its place, its extra or a value.
+    /// Writes the first rules of the list, and those that either answer names: by its place, its extra, or the value of
+    /// a first-match, which is the rule's number + 1.
     fn show_rules(&self, to: &mut Formatter) -> fmt::Result {
         let Some(rules) = self.inputs.rules else { return Ok(()) };
         writeln!(to, "  rules    {} words", rules.len())?;
-        let names = |answer: &[u64], number: usize| [1, 2, 4].iter().any(|&word| answer[word] == number as u64);
+        let names = |answer: &[u64], number: u64| [answer[1], answer[2]].contains(&number) || answer[3] == number + 1;
         let named = |number| match &self.library {
             Deed::Left { answer, .. } => names(answer, number) || names(&self.oracle, number),
             Deed::Stayed(_) => names(&self.oracle, number),
         };
-        for (number, rule) in rules.chunks(10).enumerate() {
+        for (number, rule) in (0..).zip(rules.chunks(10)) {
             if number < SHOWN_RULES || named(number) {
                 writeln!(to, "    rule {number}: {rule:?}")?;
             }

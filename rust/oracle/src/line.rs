@@ -20,14 +20,11 @@ pub fn line_all(rules: &[u32], header: &[u32], out: &mut [u32]) -> Answer {
 }
 
 /// Finds the lowest matching rule: 1, 2, then 3. The whole list is judged first, so a bad rule after the
-/// first match is still 2. A completed search gives `a` = 1 and `b`, the rule; or `a` = 0 where none matches.
+/// first match is still 2. A completed search gives `a`, the rule's number + 1, or 0 where none matches.
 pub fn line_first(rules: &[u32], header: &[u32]) -> Answer {
     match line_search(rules, header) {
         Err(refusal) => Answer::refused(refusal),
-        Ok(matching) => match matching.first() {
-            Some(&rule) => Answer::completed(1, u64::from(rule), 0),
-            None => Answer::completed(0, 0, 0),
-        },
+        Ok(matching) => Answer::completed(matching.first().map_or(0, |&rule| u64::from(rule) + 1), 0, 0),
     }
 }
 

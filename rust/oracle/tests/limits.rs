@@ -19,7 +19,7 @@ fn refused(number: u64, place: u64) -> Answer {
 fn matches(rule: &[u32; 10], header: &[u32; 5]) -> bool {
     let answer = line_first(rule, header);
     assert_eq!(answer.number, 0);
-    answer.a == 1
+    answer.a > 0
 }
 
 #[test]

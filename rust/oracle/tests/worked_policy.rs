@@ -14,7 +14,7 @@ fn expect_list(header: [u32; 5], list: &[u32]) {
         assert_eq!(&out[..list.len()], list);
         assert!(out[list.len()..].iter().all(|&word| word == AS_FOUND));
     }
-    assert_eq!(line_first(&policy(), &header), Answer::completed(1, u64::from(list[0]), 0));
+    assert_eq!(line_first(&policy(), &header), Answer::completed(u64::from(list[0]) + 1, 0, 0));
 }
 
 fn refused(number: u64, place: u64) -> Answer {

@@ -71,8 +71,7 @@ pub fn tree_all(example: &str, rules: &[u32], tree: &Tree, header: &[u32], room:
 pub fn search_list(example: &str, rules: &[u32], header: &[u32]) {
     line_all(example, rules, header, 3);
     let answer = oracle::line_first(rules, header);
-    let rule = (answer.a == 1).then_some(answer.b);
-    line(example, "line_first", answer, &rule_or_none(rule), &[]);
+    line(example, "line_first", answer, &rule_or_none(answer.a.checked_sub(1)), &[]);
 }
 
 /// Both searches of the tree, likewise.

@@ -58,10 +58,10 @@ pub fn line_all<'a>(rules: &[u32], header: &[u32], out: &'a mut [u32]) -> Result
 
 /// The lowest rule that matches the header: 1, 2, 3.
 pub fn line_first(rules: &[u32], header: &[u32]) -> Result<Option<u32>, Refusal> {
-    let [found, rule, _] = answered(|answer| unsafe {
+    let [next, ..] = answered(|answer| unsafe {
         raw::wick_line_first(rules.as_ptr(), rules.len() as u64, header.as_ptr(), header.len() as u64, answer)
     })?;
-    Ok((found == 1).then_some(rule as u32))
+    Ok(rule_before(next))
 }
 
 /// Writes the numbers in the header's leaf that match it to the front of `out`, and gives them: 3, 6, 7, 4. The tree
@@ -89,8 +89,7 @@ pub fn tree_first(rules: &[u32], tree: Tree, header: &[u32]) -> Result<Counted<O
         let (r, n, p, h) = (rules.len() as u64, nodes.len() as u64, pool.len() as u64, header.len() as u64);
         raw::wick_tree_first(rules.as_ptr(), r, nodes.as_ptr(), n, pool.as_ptr(), p, header.as_ptr(), h, answer)
     })?;
-    // The answer is the rule's number and one, or 0 where none matches.
-    Ok(Counted { found: next.checked_sub(1).map(|rule| rule as u32), visited, compared })
+    Ok(Counted { found: rule_before(next), visited, compared })
 }
 
 /// May this tree serve for this list? 1, 2, 5, 6, 7, 8.
@@ -140,6 +139,11 @@ pub fn tree_read(text: &[u8], nodes: &mut [u32], pool: &mut [u32]) -> Result<Tre
     })?;
     let [rules, nodes, pool] = counts.map(|count| count as usize);
     Ok(TreeCounts { rules, nodes, pool })
+}
+
+/// What a first-match found: its value is the rule's number + 1, or 0 where none matches.
+fn rule_before(next: u64) -> Option<u32> {
+    next.checked_sub(1).map(|rule| rule as u32)
 }
 
 /// The values of a completed call.

@@ -65,7 +65,7 @@ fn the_list_calls() {
         for header in HEADERS {
             for header in [&header[..], &header[..4]] {
                 expect(calls::line_first(&rules, header), oracle::line_first(&rules, header), |first| {
-                    first.map_or([0; 3], |rule| [1, u64::from(rule), 0])
+                    [first.map_or(0, |rule| u64::from(rule) + 1), 0, 0]
                 });
                 for room in [0, 2, 3, 9] {
                     let [mut out, mut wanted] = [vec![7; room], vec![7; room]];

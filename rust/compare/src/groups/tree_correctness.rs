@@ -131,9 +131,7 @@ fn search_as_list(bench: &mut Bench, case: &str, planted: &Planted, draws: &mut 
     assert_eq!((line.number, line.a, by_line), (tree.number, tree.a, by_tree), "the oracle: {case}");
 
     let first = bench.tree_first(case, &planted.policy, &header)?;
-    let line_first = oracle::line_first(rules, &header);
-    let wanted = if line_first.a == 1 { line_first.b + 1 } else { 0 };
-    assert_eq!(first.a, wanted, "the oracle: {case}");
+    assert_eq!(first.a, oracle::line_first(rules, &header).a, "the oracle: {case}");
     let room = line.a as usize + draws.below(3);
     let all = bench.tree_all(case, &planted.policy, &header, room)?;
     assert!(all.b <= planted.places.most_cuts() + 1 && all.c <= planted.places.longest_leaf(), "the oracle: {case}");

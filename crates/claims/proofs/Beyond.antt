@@ -1,15 +1,15 @@
 -- What goes beyond the scope holds.
-use Rattle.tree_check.proofs.Accepts.{accepts-iff-serves}
-use Rattle.console.proofs.Agreeing.{same-reply, same-replies}
 use Rattle.console.proofs.Pieces.{answers-pieces}
 use Rattle.console.proofs.Whole.{whole-input}
-use Rattle.claims.specs.Beyond.{Replies}
+use Rattle.policy.proofs.Output.{output-by-list, output-refused, accepted-iff}
+use Rattle.claims.specs.Beyond.{Program}
 
-pub replies-claim : Replies
-replies-claim =
+pub program-claim : Program
+program-claim =
     record {
-      line = λ rs nodes pool s. same-reply rs nodes pool (accepts-iff-serves rs nodes pool .1 s);
-      input = λ rs nodes pool s. same-replies rs nodes pool (accepts-iff-serves rs nodes pool .1 s);
+      stops = λ f g s why e. output-refused f g s e;
+      replies = λ f g s rs e. output-by-list f g s e;
+      silent = accepted-iff;
       pieces = answers-pieces;
       whole = whole-input;
     }

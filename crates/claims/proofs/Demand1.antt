@@ -1,134 +1,196 @@
--- Demand 1 holds.
+-- Demand 1 holds: the code meets its contracts, as the prover has found, and the promises fix what they speak of.
 use Prim.Native.Nat.{ℕ, _*_}
-use mathlib.Core.Path.{_≡_, ap, _∙_}
-use mathlib.Core.List.{List, _∷_}
+use native.Mathlib.Omega.{arith}
+use mathlib.Core.Path.{_≡_, refl, sym, ap, _∙_}
+use mathlib.Core.List.{List, [], _∷_}
+use mathlib.Core.Option.{Option}
 use lib.ListN.{length, drop}
 use Rattle.facts.specs.Lists.{written}
 use Rattle.facts.proofs.Setting.{written-behind}
 use Rattle.refusals.specs.declared.Verdict.{Verdict}
-use Rattle.refusals.specs.Paper.{success}
+use Rattle.refusals.specs.declared.Verdict.the-variants.{Fine}
+use Rattle.refusals.specs.Paper.{Paper}
 use Rattle.refusals.specs.Order.{_giving_, leaving}
-use Rattle.refusals.proofs.Giving.{left-as-found, left-new}
-use Rattle.rules.specs.Words.{ruleWords}
-use Rattle.rules.specs.declared.line.Listed.the-variants as listed
+use Rattle.refusals.specs.Promises.{Fixes, Settles, Writes, value}
+use Rattle.refusals.proofs.Order.{refused-not-fine}
+use Rattle.refusals.proofs.Promises.{writes}
+use Rattle.rules.specs.Words.{ruleWords, ruleCount}
 use Rattle.rules.specs.LineAll.{lineAll, lineAllWords, LineAllSearched}
+use Rattle.rules.specs.LineAll as line
 use Rattle.rules.proofs.Unique.{rule-checked-unique, line-all-searched-unique, line-first-searched-unique}
-use Rattle.trees.specs.Words.{nodeWords}
-use Rattle.trees.specs.declared.search.TreeListed.the-variants as tree-listed
+use Rattle.trees.specs.Words.{nodeWords, nodeCount}
+use Rattle.trees.specs.Counted.{said}
 use Rattle.trees.specs.TreeAll.{treeAll, treeAllWords, TreeAllSearched}
-use Rattle.trees.proofs.Counting.{said-giving}
+use Rattle.trees.specs.TreeAll as tree
+use Rattle.trees.proofs.Counting.{said-of-counting}
+use Rattle.trees.proofs.Sizes.{sizes-fine-iff}
 use Rattle.trees.proofs.Unique.{tree-all-searched-unique, tree-first-searched-unique}
 use Rattle.tree_check.proofs.Unique.{tree-checked-unique}
-use Rattle.rule_file.specs.declared.write.Written.the-variants as rules-written
+use Rattle.text.specs.Text.{Reading, good, refused}
+use Rattle.rule_file.specs.RuleText.{rulesIn}
 use Rattle.rule_file.specs.WriteRules.{writeRules, writeRulesBytes, RulesWritten}
-use Rattle.rule_file.specs.declared.read.Read.the-variants as rules-read
-use Rattle.rule_file.specs.ReadRules.{readRules, readRulesWords, RulesRead}
-use Rattle.rule_file.proofs.Calls.{read-words}
+use Rattle.rule_file.specs.WriteRules as write-rules
+use Rattle.rule_file.specs.ReadRules.{wordsIn, readRules, readRulesWords, RulesRead}
+use Rattle.rule_file.specs.ReadRules as read-rules
 use Rattle.rule_file.proofs.Unique.{rules-written-unique, rules-read-unique}
-use Rattle.tree_file.specs.declared.write.Written.the-variants as tree-written
+use Rattle.tree_file.specs.TreeText.{Tree, tree, treeIn}
 use Rattle.tree_file.specs.WriteTree.{writeTree, writeTreeBytes, TreeWritten}
-use Rattle.tree_file.specs.declared.read.Read.the-variants as tree-read
-use Rattle.tree_file.specs.ReadTree.{readTree, readNodes, readPool, TreeRead}
-use Rattle.tree_file.proofs.Calls.{read-tree}
+use Rattle.tree_file.specs.WriteTree as write-tree
+use Rattle.tree_file.specs.ReadTree.{verdictOf, valuesOf, nodesOf, poolOf}
+use Rattle.tree_file.specs.ReadTree.{readVerdict, readTree, readNodes, readPool, TreeRead}
+use Rattle.tree_file.specs.ReadTree as read-tree
+use Rattle.tree_file.proofs.RoundTrips.{spelling-of-read}
 use Rattle.tree_file.proofs.Unique.{tree-written-unique, tree-read-unique}
-use Rattle.console.specs.declared.say.Replied.the-variants as replied
 use Rattle.console.specs.Lines.{Said}
+use Rattle.console.specs.Lines as lines
 use Rattle.console.proofs.Unique.{said-unique}
-use Rattle.claims.specs.Demand1.{Call, Calls}
+use Rattle.policy.specs.TakeList.{ListTaken}
+use Rattle.policy.specs.TakeList as take-list
+use Rattle.policy.proofs.Listing.{words-whole}
+use Rattle.policy.proofs.Unique.{list-taken-unique, tree-taken-unique}
+use Rattle.rules.proofs as in-rules
+use Rattle.trees.proofs as in-trees
+use Rattle.tree_check.proofs as in-check
+use Rattle.rule_file.proofs as in-rule-file
+use Rattle.tree_file.proofs as in-tree-file
+use Rattle.console.proofs as in-console
+use Rattle.policy.proofs as in-policy
+use Rattle.exports.proofs as exports
+use Rattle.claims.specs.Demand1.{Code, Calls}
 
--- what is behind n words that were written is as found
-behind :
-    (v : Verdict) (new found us vs : List ℕ) {n : ℕ} {after : List ℕ} → after ≡ leaving v (written new found) found →
-    success (n ∷ us) ≡ (v giving (length new ∷ vs)) → drop n after ≡ drop n found
-behind v new found us vs {n} left e =
-    let f = left-new v _ _ found left e in
-    let size : length new ≡ n = (let z = f .0 in cc) in ap (drop n) (f .1) ∙ written-behind new found n size
+-- ---- the code
 
-line-call : (rs h w : List ℕ) → Call w (LineAllSearched rs h w) listed.Refused listed.Found (λ n. n)
+pub code-claim : {M : Type 1} → Code M
+code-claim = (
+  in-rules.check.rule_check.Met.met,
+  in-rules.line.line_all.Met.met,
+  in-rules.line.line_first.Met.met,
+  in-trees.search.tree_all.Met.met,
+  in-trees.search.tree_first.Met.met,
+  in-check.check.tree_check.Met.met,
+  in-rule-file.write.write_rules.Met.met,
+  in-rule-file.read.read_rules.Met.met,
+  in-tree-file.write.write_tree.Met.met,
+  in-tree-file.read.read_tree.Met.met,
+  in-console.reply.reply.Met.met,
+  in-console.feed.feed.Met.met,
+  in-console.feed.last_reply.Met.met,
+  in-policy.list.take_list.Met.met,
+  in-policy.tree.take_tree.Met.met,
+  in-policy.line.verdict_line.Met.met,
+  exports.line.wick_rule_check.Met.met,
+  exports.line.wick_line_all.Met.met,
+  exports.line.wick_line_first.Met.met,
+  exports.tree.wick_tree_all.Met.met,
+  exports.tree.wick_tree_first.Met.met,
+  exports.tree.wick_tree_check.Met.met,
+  exports.rule_text.wick_rules_write.Met.met,
+  exports.rule_text.wick_rules_read.Met.met,
+  exports.tree_text.wick_tree_write.Met.met,
+  exports.tree_text.wick_tree_read.Met.met,
+)
+
+-- ---- the searches and the writers
+
+-- a call that writes new words in front writes as it should, where it says how many they are
+fronts :
+    {R : Type 0} {w : List ℕ} {P : R → List ℕ → Type 0} {paper : R → Paper} {size : List ℕ → ℕ} (v : Verdict)
+    (values new : List ℕ) → Settles P →
+    ((r : R) (after : List ℕ) → P r after → (paper r ≡ (v giving values)) × (after ≡ leaving v (written new w) w)) →
+    (v ≡ Fine → length new ≡ size values) → Writes w P paper size
+fronts {w = w} v values new one says counts =
+    writes v values (written new w) one says (λ e. written-behind new w _ (counts e))
+
+line-writes : (rs h w : List ℕ) → Writes w (LineAllSearched rs h w) line.paper (value 0)
 unfolding lineAll lineAllWords
-line-call rs h w = (
-  λ r s v u p q. line-all-searched-unique p q,
-  λ why a p. left-as-found _ _ _ w (p .leaves) why (p .answers),
-  λ n a p. behind _ _ w _ _ (p .leaves) (p .answers),
-)
+line-writes rs h w =
+    fronts _ _ _ (λ r s v u p q. line-all-searched-unique p q) (λ r a p. (p .answers, p .leaves))
+    (λ e. refl)
 
-tree-call :
-    (rs nodes pool h w : List ℕ) (v c : ℕ) →
-    Call w (TreeAllSearched rs nodes pool h w) tree-listed.Refused (λ n. tree-listed.Found n v c) (λ n. n)
+tree-writes :
+    (rs ns es h w : List ℕ) → Writes w (TreeAllSearched rs ns es h w) (λ r. said (tree.paper r)) (value 0)
 unfolding treeAll treeAllWords
-tree-call rs nodes pool h w v c = (
-  λ r s x u p q. tree-all-searched-unique p q,
-  λ why a p. left-as-found _ _ _ w (p .leaves) why (said-giving _ _ _ _ (p .answers)),
-  λ n a p. behind _ _ w _ _ (p .leaves) (said-giving _ _ _ _ (p .answers)),
-)
+tree-writes rs ns es h w =
+    fronts _ _ _ (λ r s v u p q. tree-all-searched-unique p q)
+    (λ r a p. (ap said (p .answers) ∙ said-of-counting _ _ _ _, p .leaves)) (λ e. refl)
 
-rules-written-call : (rs w : List ℕ) → Call w (RulesWritten rs w) rules-written.Refused rules-written.Bytes (λ n. n)
+rules-written-writes : (rs w : List ℕ) → Writes w (RulesWritten rs w) write-rules.paper (value 0)
 unfolding writeRules writeRulesBytes
-rules-written-call rs w = (
-  λ r s v u p q. rules-written-unique p q,
-  λ why a p. left-as-found _ _ _ w (p .leaves) why (p .answers),
-  λ n a p. behind _ _ w _ _ (p .leaves) (p .answers),
-)
+rules-written-writes rs w =
+    fronts _ _ _ (λ r s v u p q. rules-written-unique p q) (λ r a p. (p .answers, p .leaves))
+    (λ e. refl)
 
-rules-read-call : (s w : List ℕ) → Call w (RulesRead s w) rules-read.Refused rules-read.Rules (λ n. n * ruleWords)
-unfolding readRules readRulesWords
-rules-read-call s w = (
-  λ r t v u p q. rules-read-unique p q,
-  λ why a p. left-as-found _ _ _ w (p .leaves) why (p .answers),
-  λ n a p. read-words p .1,
-)
-
-tree-written-call :
-    (k : ℕ) (nodes pool w : List ℕ) →
-    Call w (TreeWritten k nodes pool w) tree-written.Refused tree-written.Bytes (λ n. n)
+tree-written-writes : (k : ℕ) (ns es w : List ℕ) → Writes w (TreeWritten k ns es w) write-tree.paper (value 0)
 unfolding writeTree writeTreeBytes
-tree-written-call k nodes pool w = (
-  λ r s v u p q. tree-written-unique p q,
-  λ why a p. left-as-found _ _ _ w (p .leaves) why (p .answers),
-  λ n a p. behind _ _ w _ _ (p .leaves) (p .answers),
-)
+tree-written-writes k ns es w =
+    fronts _ _ _ (λ r s v u p q. tree-written-unique p q) (λ r a p. (p .answers, p .leaves))
+    (λ e. refl)
 
-nodes-read-call :
-    (s w pool after : List ℕ) (k p : ℕ) →
-    Call w (λ r v. TreeRead s w pool r v after) tree-read.Refused (λ n. tree-read.Tree k n p) (λ n. n * nodeWords)
-unfolding readTree readNodes
-nodes-read-call s w pool after k p = (
-  λ r t v u x y. let e = tree-read-unique x y in (e .0, e .1),
-  λ why a q. left-as-found _ _ _ w (q .leaves-nodes) why (q .answers),
-  λ n a q. read-tree q .nodes-rest,
-)
+reply-writes : (bytes w : List ℕ) → Writes w (Said bytes w) lines.paper (value 0)
+reply-writes bytes w =
+    fronts _ _ _ (λ r s v u p q. said-unique p q) (λ r a p. (p .answers, p .leaves)) (λ e. refl)
 
-pool-read-call :
-    (s nodes w after : List ℕ) (k m : ℕ) →
-    Call w (λ r v. TreeRead s nodes w r after v) tree-read.Refused (λ n. tree-read.Tree k m n) (λ n. n)
-unfolding readTree readPool
-pool-read-call s nodes w after k m = (
-  λ r t v u x y. let e = tree-read-unique x y in (e .0, e .2),
-  λ why a q. left-as-found _ _ _ w (q .leaves-pool) why (q .answers),
-  λ n a q. read-tree q .pool-rest,
-)
+-- ---- the readers
 
-reply-call : (bytes w : List ℕ) → Call w (Said bytes w) replied.Refused replied.Written (λ n. n)
-reply-call bytes w = (
-  λ r s v u p q. said-unique p q,
-  λ why a p. left-as-found _ _ _ w (p .leaves) why (p .answers),
-  λ n a p. behind _ _ w _ _ (p .leaves) (p .answers),
-)
+rules-read-writes : (s w : List ℕ) → Writes w (RulesRead s w) read-rules.paper (λ vs. value 0 vs * ruleWords)
+unfolding readRules readRulesWords
+rules-read-writes s w =
+    fronts _ _ _ (λ r t v u p q. rules-read-unique p q) (λ r a p. (p .answers, p .leaves))
+    (λ e. words-whole s (rulesIn s) refl)
+
+list-taken-writes : (f : Option (List ℕ)) (w : List ℕ) → Writes w (ListTaken f w) take-list.paper (value 0)
+list-taken-writes f w =
+    fronts _ _ _ (λ r t v u p q. list-taken-unique p q) (λ r a p. (p .answers, p .leaves))
+    (λ e. refl)
+
+-- the nodes of a tree that reads well are three words each, and the values say how many nodes and pool words there are
+tree-values :
+    (s : List ℕ) (a b : ℕ) (t : Reading Tree) → treeIn s ≡ t → verdictOf t a b ≡ Fine →
+    (length (nodesOf t) ≡ value 1 (valuesOf t) * nodeWords) × (length (poolOf t) ≡ value 2 (valuesOf t))
+unfolding verdictOf
+tree-values s a b (refused why) q e = refused-not-fine e
+tree-values s a b (good (tree n ns es)) q e =
+    (omega (arith, sizes-fine-iff ns es .0 (spelling-of-read s n ns es q .sizes) .whole), refl)
+
+nodes-read-writes :
+    (s w es after : List ℕ) →
+    Writes w (λ r v. TreeRead s w es r v after) read-tree.paper (λ vs. value 1 vs * nodeWords)
+unfolding readTree readNodes readVerdict
+nodes-read-writes s w es after =
+    fronts _ _ _ (λ r t v u p q. let e = tree-read-unique p q in (e .0, e .1))
+    (λ r a p. (p .answers, p .leaves-nodes))
+    (λ e. tree-values s (length w) (length es) (treeIn s) refl e .0)
+
+pool-read-writes :
+    (s ns w after : List ℕ) → Writes w (λ r v. TreeRead s ns w r after v) read-tree.paper (value 2)
+unfolding readTree readPool readVerdict
+pool-read-writes s ns w after =
+    fronts _ _ _ (λ r t v u p q. let e = tree-read-unique p q in (e .0, e .2)) (λ r a p. (p .answers, p .leaves-pool))
+    (λ e. tree-values s (length ns) (length w) (treeIn s) refl e .1)
+
+-- ---- all of it
+
+same-three :
+    {A B C : Type 0} {a d : A} {b e : B} {c f : C} → (a ≡ d) × (b ≡ e) × (c ≡ f) →
+    _≡_ {A = A × B × C} (a, b, c) (d, e, f)
+same-three e = rw (e .0, e .1, e .2)
 
 pub calls-claim : Calls
 calls-claim =
     record {
       rule-check = λ rs r s p q. rule-checked-unique p q;
-      line-all = line-call;
+      line-all = line-writes;
       line-first = λ rs h r s p q. line-first-searched-unique p q;
-      tree-all = tree-call;
-      tree-first = λ rs nodes pool h r s p q. tree-first-searched-unique p q;
-      tree-check = λ rs nodes pool r s p q. tree-checked-unique p q;
-      write-rules = rules-written-call;
-      read-rules = rules-read-call;
-      write-tree = tree-written-call;
-      read-tree = λ s nodes pool a b c d r t p q. tree-read-unique p q;
-      read-nodes = nodes-read-call;
-      read-pool = pool-read-call;
-      reply = reply-call;
+      tree-all = tree-writes;
+      tree-first = λ rs ns es h r s p q. tree-first-searched-unique p q;
+      tree-check = λ rs ns es r s p q. tree-checked-unique p q;
+      write-rules = rules-written-writes;
+      read-rules = rules-read-writes;
+      write-tree = tree-written-writes;
+      read-tree = λ s ns es x y p q. same-three (tree-read-unique p q);
+      read-nodes = nodes-read-writes;
+      read-pool = pool-read-writes;
+      reply = reply-writes;
+      take-list = list-taken-writes;
+      take-tree = λ rs f ns es x y p q. same-three (tree-taken-unique p q);
     }

@@ -25,15 +25,15 @@ matching-claim =
       box = λ rs r g h. matches-iff-inside rs r g h;
     }
 
-pub by-tree-claim : (rs nodes pool : List ℕ) (serves : Serves rs nodes pool) → ByTree rs nodes pool serves
-by-tree-claim rs nodes pool s =
-    let ok = accepts-iff-serves rs nodes pool .1 s in
+pub by-tree-claim : (rs ns es : List ℕ) → Serves rs ns es → ByTree rs ns es
+by-tree-claim rs ns es s =
+    let ok = accepts-iff-serves rs ns es .1 s in
     record {
-      refuses = same-verdict rs nodes pool ok;
-      leaves = same-words rs nodes pool ok;
-      first = same-first rs nodes pool ok;
-      completes = refuses-none rs nodes pool ok;
-      lists = same-list rs nodes pool ok;
+      refuses = same-verdict rs ns es ok;
+      leaves = same-words rs ns es ok;
+      first = same-first rs ns es ok;
+      completes = refuses-none rs ns es ok;
+      lists = same-list rs ns es ok;
     }
 
 pub rule-file-claim : RuleFile

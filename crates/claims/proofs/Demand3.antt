@@ -2,7 +2,7 @@
 use Rattle.tree_check.proofs.Accepts.{accepted, accepts-iff-serves}
 use Rattle.tree_check.proofs.Stages.{lack-decides}
 use Rattle.tree_check.proofs.Eight.{eight-iff, eight-at-iff}
-use Rattle.tree_check.proofs.Answers.{refused-iff, accepted-says, accepted-means, accepted-figures}
+use Rattle.tree_check.proofs.Answers.{refused-iff, accepted-says, accepted-means}
 use Rattle.tree_check.proofs.Answering.{accepted-answers}
 use Rattle.tree_check.proofs.Malformed.{malformed-iff}
 use Rattle.claims.specs.Demand3.{TreeCheck}
@@ -23,6 +23,5 @@ tree-check-claim =
         λ l. refused-iff .1 (eight-at-iff rs ns es i r .1 l),
       );
       malformed = malformed-iff;
-      figures = λ rs ns es c l p. accepted-figures p;
       searches = λ rs ns es c l p. accepted-answers p;
     }

@@ -1,23 +1,30 @@
--- Beyond the scope: the program's replies are those that the written rules give, whichever way the answer was found and
--- however the input came in pieces. Statements only.
+-- Beyond the scope: what the program writes, from the bytes of its two files and of its input. A file is its bytes; or
+-- none, where it was not read to its end. Statements only.
 use Prim.Native.Nat.{ℕ}
-use mathlib.Core.Bool.{true, false}
+use mathlib.Core.Logic.{_↔_}
 use mathlib.Core.Path.{_≡_}
 use mathlib.Core.List.{List, _++_}
-use Rattle.tree_check.specs.Serves.{Serves}
+use mathlib.Core.Option.{Option}
+use Rattle.refusals.specs.declared.Refusal.{Refusal}
+use Rattle.refusals.specs.declared.Verdict.the-variants.{Fine, Refused}
+use Rattle.text.specs.Text.{good, refused}
 use Rattle.console.specs.declared.gather.Gathering.{Gathering}
-use Rattle.console.specs.Replies.{answerTo, lineReply}
 use Rattle.console.specs.Gathered.{begun, after, answers, lastReply, inputReplies}
+use Rattle.policy.specs.Files.{listIn, treeOf}
+use Rattle.policy.specs.Output.{treeVerdict, byList, verdictLine, output, TreeServes}
 
--- a line, and the whole input, get by a tree that serves the list what they get by the list; pieces of input get what
--- they get together; and byte by byte the input gets the replies to its lines, and at its end to its last part
-pub record Replies : Type 0 where
-  pub line :
-      (rs nodes pool : List ℕ) → Serves rs nodes pool → (k : ℕ) (l : List ℕ) →
-      lineReply (answerTo true rs nodes pool) k l ≡ lineReply (answerTo false rs nodes pool) k l
-  pub input :
-      (rs nodes pool : List ℕ) → Serves rs nodes pool → (s : List ℕ) →
-      inputReplies (answerTo true rs nodes pool) s ≡ inputReplies (answerTo false rs nodes pool) s
+pub record Program : Type 0 where
+  -- a rule file that is refused has its line written, and nothing else
+  pub stops :
+      (f g : Option (List ℕ)) (s : List ℕ) (why : Refusal) → listIn f ≡ refused why →
+      output f g s ≡ verdictLine (Refused why)
+  -- whatever the tree file holds, after the line of a refused tree the input gets the replies of the written list
+  pub replies :
+      (f g : Option (List ℕ)) (s rs : List ℕ) → listIn f ≡ good rs →
+      output f g s ≡ verdictLine (treeVerdict rs (treeOf g)) ++ inputReplies (byList rs) s
+  -- no tree is refused exactly where the file holds one that may serve
+  pub silent : (rs : List ℕ) (g : Option (List ℕ)) → (treeVerdict rs (treeOf g) ≡ Fine) ↔ TreeServes rs g
+  -- pieces of input get what they get together, and byte by byte the whole gets the replies to its lines and last part
   pub pieces :
       (answer : List ℕ → List ℕ) (g : Gathering) (p q : List ℕ) →
       answers answer g (p ++ q) ≡ answers answer g p ++ answers answer (after g p) q

@@ -1,66 +1,80 @@
--- Demand 1: every call takes any words and bytes. Its promise has no condition, and fixes the result and all lent
--- memory; a refused call alters none. Statements only.
---   Fixes P, Settles P    two results that the promise P allows are equal, and so are the two states of the lent words
---   Call before P refused says size    so for a call lent words; refused it leaves all, else those behind size n
+-- Demand 1: every call takes any words and bytes. Its promise has no condition; its code meets the promise, which fixes
+-- the result and all lent memory; and a refused call alters none. Statements only.
+--   Code M     the code of each call meets the contract that stands over it, in the prover's own words: from
+--              any lent words it ends, stays within them, overflows nothing, and its promise then holds
+--   Calls      each promise allows one result (`Fixes`) and one state of the lent words; a refusal leaves
+--              them as found, and a success those past what was written (`Writes`)
 use Prim.Native.Nat.{ℕ, _*_}
-use mathlib.Core.Path.{_≡_}
 use mathlib.Core.List.{List}
-use lib.ListN.{drop}
-use Rattle.refusals.specs.declared.Refusal.{Refusal}
-use Rattle.rules.specs.Words.{ruleWords}
-use Rattle.rules.specs.RuleCheck.{RuleChecked}
-use Rattle.rules.specs.declared.line.Listed.the-variants as listed
-use Rattle.rules.specs.LineAll.{LineAllSearched}
-use Rattle.rules.specs.LineFirst.{LineFirstSearched}
-use Rattle.trees.specs.Words.{nodeWords}
-use Rattle.trees.specs.declared.search.TreeListed.the-variants as tree-listed
-use Rattle.trees.specs.TreeAll.{TreeAllSearched}
-use Rattle.trees.specs.TreeFirst.{TreeFirstSearched}
-use Rattle.tree_check.specs.TreeCheck.{TreeChecked}
-use Rattle.rule_file.specs.declared.write.Written.the-variants as rules-written
-use Rattle.rule_file.specs.WriteRules.{RulesWritten}
-use Rattle.rule_file.specs.declared.read.Read.the-variants as rules-read
-use Rattle.rule_file.specs.ReadRules.{RulesRead}
-use Rattle.tree_file.specs.declared.write.Written.the-variants as tree-written
-use Rattle.tree_file.specs.WriteTree.{TreeWritten}
-use Rattle.tree_file.specs.declared.read.Read.{Read}
-use Rattle.tree_file.specs.declared.read.Read.the-variants as tree-read
-use Rattle.tree_file.specs.ReadTree.{TreeRead}
-use Rattle.console.specs.declared.say.Replied.the-variants as replied
-use Rattle.console.specs.Lines.{Said}
+use mathlib.Core.Option.{Option}
+use Rattle.refusals.specs.Promises.{Fixes, Writes, value}
+use Rattle.rules.specs as rules
+use Rattle.trees.specs as trees
+use Rattle.tree_check.specs as tree-check
+use Rattle.rule_file.specs as rule-file
+use Rattle.tree_file.specs as tree-file
+use Rattle.console.specs as console
+use Rattle.policy.specs as policy
+use Rattle.rules.proofs as in-rules
+use Rattle.trees.proofs as in-trees
+use Rattle.tree_check.proofs as in-check
+use Rattle.rule_file.proofs as in-rule-file
+use Rattle.tree_file.proofs as in-tree-file
+use Rattle.console.proofs as in-console
+use Rattle.policy.proofs as in-policy
+use Rattle.exports.proofs as exports
 
-abbrev pub Fixes : {R : Type 0} → (R → Type 0) → Type 0
-Fixes {R} P = (r s : R) → P r → P s → r ≡ s
-
-abbrev pub Settles : {R : Type 0} → (R → List ℕ → Type 0) → Type 0
-Settles {R} P = (r s : R) (v w : List ℕ) → P r v → P s w → (r ≡ s) × (v ≡ w)
-
-abbrev pub Call : {R : Type 0} → List ℕ → (R → List ℕ → Type 0) → (Refusal → R) → (ℕ → R) → (ℕ → ℕ) → Type 0
-Call before P refused says size =
-    Settles P × ((why : Refusal) (after : List ℕ) → P (refused why) after → after ≡ before) ×
-    ((n : ℕ) (after : List ℕ) → P (says n) after → drop (size n) after ≡ drop (size n) before)
+abbrev pub Code : Type 1 → Type 2
+Code M =
+    in-rules.check.rule_check.Statement.statement M × in-rules.line.line_all.Statement.statement M ×
+    in-rules.line.line_first.Statement.statement M × in-trees.search.tree_all.Statement.statement M ×
+    in-trees.search.tree_first.Statement.statement M × in-check.check.tree_check.Statement.statement M ×
+    in-rule-file.write.write_rules.Statement.statement M × in-rule-file.read.read_rules.Statement.statement M ×
+    in-tree-file.write.write_tree.Statement.statement M × in-tree-file.read.read_tree.Statement.statement M ×
+    in-console.reply.reply.Statement.statement M × in-console.feed.feed.Statement.statement M ×
+    in-console.feed.last_reply.Statement.statement M × in-policy.list.take_list.Statement.statement M ×
+    in-policy.tree.take_tree.Statement.statement M × in-policy.line.verdict_line.Statement.statement M ×
+    exports.line.wick_rule_check.Statement.statement M × exports.line.wick_line_all.Statement.statement M ×
+    exports.line.wick_line_first.Statement.statement M × exports.tree.wick_tree_all.Statement.statement M ×
+    exports.tree.wick_tree_first.Statement.statement M × exports.tree.wick_tree_check.Statement.statement M ×
+    exports.rule_text.wick_rules_write.Statement.statement M ×
+    exports.rule_text.wick_rules_read.Statement.statement M ×
+    exports.tree_text.wick_tree_write.Statement.statement M × exports.tree_text.wick_tree_read.Statement.statement M
 
 pub record Calls : Type 0 where
-  pub rule-check : (rs : List ℕ) → Fixes (RuleChecked rs)
-  pub line-all : (rs h w : List ℕ) → Call w (LineAllSearched rs h w) listed.Refused listed.Found (λ n. n)
-  pub line-first : (rs h : List ℕ) → Fixes (LineFirstSearched rs h)
+  pub rule-check : (rs : List ℕ) → Fixes (rules.RuleCheck.RuleChecked rs)
+  pub line-all : (rs h w : List ℕ) → Writes w (rules.LineAll.LineAllSearched rs h w) rules.LineAll.paper (value 0)
+  pub line-first : (rs h : List ℕ) → Fixes (rules.LineFirst.LineFirstSearched rs h)
   pub tree-all :
-      (rs nodes pool h w : List ℕ) (v c : ℕ) →
-      Call w (TreeAllSearched rs nodes pool h w) tree-listed.Refused (λ n. tree-listed.Found n v c) (λ n. n)
-  pub tree-first : (rs nodes pool h : List ℕ) → Fixes (TreeFirstSearched rs nodes pool h)
-  pub tree-check : (rs nodes pool : List ℕ) → Fixes (TreeChecked rs nodes pool)
-  pub write-rules : (rs w : List ℕ) → Call w (RulesWritten rs w) rules-written.Refused rules-written.Bytes (λ n. n)
-  pub read-rules : (s w : List ℕ) → Call w (RulesRead s w) rules-read.Refused rules-read.Rules (λ n. n * ruleWords)
+      (rs ns es h w : List ℕ) →
+      Writes w (trees.TreeAll.TreeAllSearched rs ns es h w) (λ r. trees.Counted.said (trees.TreeAll.paper r)) (value 0)
+  pub tree-first : (rs ns es h : List ℕ) → Fixes (trees.TreeFirst.TreeFirstSearched rs ns es h)
+  pub tree-check : (rs ns es : List ℕ) → Fixes (tree-check.TreeCheck.TreeChecked rs ns es)
+  pub write-rules :
+      (rs w : List ℕ) → Writes w (rule-file.WriteRules.RulesWritten rs w) rule-file.WriteRules.paper (value 0)
+  pub read-rules :
+      (s w : List ℕ) →
+      Writes w (rule-file.ReadRules.RulesRead s w) rule-file.ReadRules.paper (λ vs. value 0 vs * rules.Words.ruleWords)
   pub write-tree :
-      (k : ℕ) (nodes pool w : List ℕ) →
-      Call w (TreeWritten k nodes pool w) tree-written.Refused tree-written.Bytes (λ n. n)
+      (k : ℕ) (ns es w : List ℕ) →
+      Writes w (tree-file.WriteTree.TreeWritten k ns es w) tree-file.WriteTree.paper (value 0)
   pub read-tree :
-      (s nodes pool a b c d : List ℕ) (r t : Read) → TreeRead s nodes pool r a b → TreeRead s nodes pool t c d →
-      (r ≡ t) × (a ≡ c) × (b ≡ d)
+      (s ns es : List ℕ) →
+      Fixes
+      (λ (x : tree-file.declared.read.Read.Read × List ℕ × List ℕ).
+      tree-file.ReadTree.TreeRead s ns es (x .0) (x .1) (x .2))
   pub read-nodes :
-      (s w pool after : List ℕ) (k p : ℕ) →
-      Call w (λ r v. TreeRead s w pool r v after) tree-read.Refused (λ n. tree-read.Tree k n p) (λ n. n * nodeWords)
+      (s w es after : List ℕ) →
+      Writes w (λ r v. tree-file.ReadTree.TreeRead s w es r v after) tree-file.ReadTree.paper
+      (λ vs. value 1 vs * trees.Words.nodeWords)
   pub read-pool :
-      (s nodes w after : List ℕ) (k m : ℕ) →
-      Call w (λ r v. TreeRead s nodes w r after v) tree-read.Refused (λ n. tree-read.Tree k m n) (λ n. n)
-  pub reply : (bytes w : List ℕ) → Call w (Said bytes w) replied.Refused replied.Written (λ n. n)
+      (s ns w after : List ℕ) →
+      Writes w (λ r v. tree-file.ReadTree.TreeRead s ns w r after v) tree-file.ReadTree.paper (value 2)
+  pub reply : (bytes w : List ℕ) → Writes w (console.Lines.Said bytes w) console.Lines.paper (value 0)
+  pub take-list :
+      (f : Option (List ℕ)) (w : List ℕ) → Writes w (policy.TakeList.ListTaken f w) policy.TakeList.paper (value 0)
+  pub take-tree :
+      (rs : List ℕ) (f : Option (List ℕ)) (ns es : List ℕ) →
+      Fixes
+      (λ (x : policy.declared.tree.Serving.Serving × List ℕ × List ℕ).
+      policy.TakeTree.TreeTaken rs f ns es (x .0) (x .1) (x .2))

@@ -8,19 +8,10 @@ use lib.ListN.{length}
 use Rattle.facts.specs.Lists.{has, rises}
 use Rattle.refusals.specs.declared.Refusal.the-variants.{TextStops}
 use Rattle.refusals.specs.declared.Verdict.the-variants.{Fine}
-use Rattle.fields.specs.Words.{fieldCount}
-use Rattle.fields.specs.Boxes.{Inside}
-use Rattle.fields.specs.Headers.{Legal}
-use Rattle.rules.specs.Words.{ruleCount}
-use Rattle.rules.specs.Good.{good, listVerdict}
+use Rattle.fields.specs as fields
+use Rattle.rules.specs as rules
 use Rattle.rules.specs.Matching.{matches, matching, ruleBox}
-use Rattle.rules.specs.LineAll.{allVerdict, lineAllWords}
-use Rattle.rules.specs.LineFirst.{lineFirst}
-use Rattle.trees.specs.Search.{treeVerdict, treeList}
-use Rattle.trees.specs.Counted.{said}
-use Rattle.trees.specs.TreeAll.{treeAllVerdict, treeAllWords}
-use Rattle.trees.specs.TreeFirst.{treeFirst}
-use Rattle.tree_check.specs.Serves.{Serves}
+use Rattle.trees.specs as trees
 use Rattle.text.specs.Line.{AllBelow}
 use Rattle.text.specs.Text as text
 use Rattle.rule_file.specs.RuleText.{rulesIn, rulesText}
@@ -31,23 +22,24 @@ use Rattle.tree_file.specs.TreeLines.{treeText, Spelling}
 -- its first is the lowest that matches; a good rule matches exactly the headers in its box
 pub record Matching : Type 0 where
   pub listed :
-      (rs h : List ℕ) (r : ℕ) → (has (matching rs h) r ≡ true) ↔ ((r < ruleCount rs) × (matches rs h r ≡ true))
+      (rs h : List ℕ) (r : ℕ) →
+      (has (matching rs h) r ≡ true) ↔ ((r < rules.Words.ruleCount rs) × (matches rs h r ≡ true))
   pub rising : (rs h : List ℕ) → rises 0 (matching rs h) ≡ true
   pub lowest :
       (rs h : List ℕ) (r : ℕ) (rest : List ℕ) → matching rs h ≡ r ∷ rest → (q : ℕ) → q < r → matches rs h q ≡ false
   pub box :
-      (rs : List ℕ) (r : ℕ) → good rs r ≡ true → (h : List ℕ) →
-      (matches rs h r ≡ true) ↔ Inside fieldCount (ruleBox rs r) h
+      (rs : List ℕ) (r : ℕ) → rules.Good.good rs r ≡ true → (h : List ℕ) →
+      (matches rs h r ≡ true) ↔ fields.Boxes.Inside fields.Words.fieldCount (ruleBox rs r) h
 
 -- by a tree that serves the list, any header and room are refused as by the list and leave the same words, and of any
 -- header the first match, or the refusal, is the list's; a legal header completes both searches, and the matches of its
 -- leaf, of which they give all or the first, are the list's
-pub record ByTree (rs nodes pool : List ℕ) (serves : Serves rs nodes pool) : Type 0 where
-  pub refuses : (h : List ℕ) (room : ℕ) → treeAllVerdict rs nodes pool h room ≡ allVerdict rs h room
-  pub leaves : (h found : List ℕ) → treeAllWords rs nodes pool h found ≡ lineAllWords rs h found
-  pub first : (h : List ℕ) → said (treeFirst rs nodes pool h) ≡ lineFirst rs h
-  pub completes : (h : List ℕ) → Legal h → treeVerdict rs nodes pool h ≡ Fine
-  pub lists : (h : List ℕ) → Legal h → treeList rs nodes pool h ≡ matching rs h
+pub record ByTree (rs ns es : List ℕ) : Type 0 where
+  pub refuses : (h : List ℕ) (n : ℕ) → trees.TreeAll.treeAllVerdict rs ns es h n ≡ rules.LineAll.allVerdict rs h n
+  pub leaves : (h found : List ℕ) → trees.TreeAll.treeAllWords rs ns es h found ≡ rules.LineAll.lineAllWords rs h found
+  pub first : (h : List ℕ) → trees.Counted.said (trees.TreeFirst.treeFirst rs ns es h) ≡ rules.LineFirst.lineFirst rs h
+  pub completes : (h : List ℕ) → fields.Headers.Legal h → trees.Search.treeVerdict rs ns es h ≡ Fine
+  pub lists : (h : List ℕ) → fields.Headers.Legal h → trees.Search.treeList rs ns es h ≡ matching rs h
 
 -- what is written of fit words reads back as those; what reads well is the text that is written of it, and fit; and cut
 -- before its end it is refused with 10 and the number of whole lines left
@@ -59,13 +51,13 @@ pub record File {W : Type 0} (read : List ℕ → text.Reading W) (write : W →
       read p ≡ text.refused (TextStops (length (text.linesOf (text.split p))))
 
 abbrev pub RuleFile : Type 0
-RuleFile = File rulesIn rulesText (λ ws. (listVerdict ws ≡ Fine) × AllBelow (2 ^ 32) ws)
+RuleFile = File rulesIn rulesText (λ ws. (rules.Good.listVerdict ws ≡ Fine) × AllBelow (2 ^ 32) ws)
 
 abbrev pub treeWritten : Tree → List ℕ
-treeWritten (tree n nodes pool) = treeText n nodes pool
+treeWritten (tree n ns es) = treeText n ns es
 
 abbrev pub TreeFits : Tree → Type 0
-TreeFits (tree n nodes pool) = Spelling n nodes pool × AllBelow (2 ^ 32) nodes
+TreeFits (tree n ns es) = Spelling n ns es × AllBelow (2 ^ 32) ns
 
 abbrev pub TreeFile : Type 0
 TreeFile = File treeIn treeWritten TreeFits

@@ -1,20 +1,15 @@
 -- The marked rows of the scope's worked policy, as one table under one statement. Destination is 192.168.0.1 and source
 -- port 40,000 throughout. Statements only.
---   search h ms n c f a    header h: the list ms and the first match f, by the list and by the tree; by the tree n
---                          nodes, c compared for the list and a for the first
+--   search h ms n c f a    header h: list ms and first f, by list and tree; n nodes, c compared, and a for the first
 --   check rs ns es p       the tree check of nodes ns and pool es for the list rs says p
 use Prim.Native.Nat.{ℕ, _+_, _*_}
 use mathlib.Core.Path.{_≡_}
 use mathlib.Core.List.{List, [], _∷_}
 use lib.ListN.{length}
 use Rattle.refusals.specs.Paper.{Paper, refusal, success}
-use Rattle.rules.specs.Matching.{matching}
-use Rattle.rules.specs.LineAll.{lineAll}
-use Rattle.rules.specs.LineFirst.{lineFirst}
-use Rattle.trees.specs.Search.{treeList}
+use Rattle.rules.specs as list
+use Rattle.trees.specs as trees
 use Rattle.trees.specs.Counted.{counted}
-use Rattle.trees.specs.TreeAll.{treeAll}
-use Rattle.trees.specs.TreeFirst.{treeFirst}
 use Rattle.tree_check.specs.TreeCheck.{treeCheck}
 
 abbrev pub from : ℕ → ℕ → ℕ → ℕ → ℕ → ℕ → List ℕ
@@ -43,10 +38,11 @@ pub data Row : Type 0 where
 abbrev pub AllHold : List Row → Type 0
 AllHold [] = Unit {0}
 AllHold (search h ms n c f a ∷ rows) =
-    ((matching rules h ≡ ms) × (treeList rules tree pool h ≡ ms) ×
-    (lineAll rules h 3 ≡ success (length ms ∷ [])) × (lineFirst rules h ≡ success (f ∷ [])) ×
-    (treeAll rules tree pool h 3 ≡ counted (success (length ms ∷ [])) n c) ×
-    (treeFirst rules tree pool h ≡ counted (success (f ∷ [])) n a)) × AllHold rows
+    ((list.Matching.matching rules h ≡ ms) × (trees.Search.treeList rules tree pool h ≡ ms) ×
+    (list.LineAll.lineAll rules h 3 ≡ success (length ms ∷ [])) ×
+    (list.LineFirst.lineFirst rules h ≡ success (f ∷ [])) ×
+    (trees.TreeAll.treeAll rules tree pool h 3 ≡ counted (success (length ms ∷ [])) n c) ×
+    (trees.TreeFirst.treeFirst rules tree pool h ≡ counted (success (f ∷ [])) n a)) × AllHold rows
 AllHold (check rs ns es p ∷ rows) = (treeCheck rs ns es ≡ p) × AllHold rows
 
 abbrev pub table : List Row

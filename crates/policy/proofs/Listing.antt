@@ -33,7 +33,7 @@ use Rattle.policy.specs.TakeList.{fileVerdict, ListTaken}
 -- ---- what the reader said
 
 -- the words of a text that reads well are ten for each rule
-words-whole :
+pub words-whole :
     (s : List ℕ) (a : Reading (List ℕ)) → rulesIn s ≡ a → length (wordsIn a) ≡ ruleCount (wordsIn a) * ruleWords
 words-whole s (refused why) e = refl
 words-whole s (good ws) e = omega (arith, fine-iff-good ws .0 (written-of-read s ws e .1) .whole)

@@ -10,11 +10,9 @@ use Rattle.refusals.specs.declared.Verdict.the-variants as verdict
 use Rattle.refusals.specs.Paper.{success}
 use Rattle.refusals.proofs.Order.{giving-fine, giving-refused}
 use Rattle.refusals.proofs.Unique.{on-paper-unique, refusal-not-success}
-use Rattle.trees.specs.Words.{nodeCount}
 use Rattle.tree_check.specs.declared.preorder.Lack.the-variants.{Complete}
-use Rattle.tree_check.specs.declared.preorder.Part.the-variants.{Good}
 use Rattle.tree_check.specs.declared.check.TreeAnswer.the-variants.{Refused, Accepted}
-use Rattle.tree_check.specs.TreeCheck.{rootPart, figures, checkVerdict, treeCheck, TreeChecked}
+use Rattle.tree_check.specs.TreeCheck.{figures, checkVerdict, treeCheck, TreeChecked}
 use Rattle.tree_check.specs.Figures.{Figures}
 use Rattle.tree_check.proofs.Stages.{Reached, lack-decides, formed}
 use Rattle.tree_check.proofs.Accepts.{accepted}
@@ -57,11 +55,3 @@ module _ {rs nodes pool : List ℕ} where
   -- the two numbers of an accepted tree's answer bound every legal header, and each is met by one
   pub accepted-figures : {c l : ℕ} → TreeChecked rs nodes pool (Accepted c l) → Figures nodes pool c l
   accepted-figures p = figures-met (formed (accepted-means p))
-
--- the figures of an accepted tree's root bound every legal header, and each is met by one
-pub root-figures :
-    (rs nodes pool : List ℕ) {c l : ℕ} → checkVerdict rs nodes pool ≡ verdict.Fine →
-    rootPart rs nodes pool ≡ Good (nodeCount nodes) c l Complete → Figures nodes pool c l
-root-figures rs nodes pool e q =
-    let t = accepted rs nodes pool e .2 in
-    figures-met (formed (record { list = t .list; sizes = t .sizes; spelt = t .spelt; root = q }))

@@ -50,7 +50,11 @@ module _ (n : ℕ) (nodes pool : List ℕ) where
   spelling-of-fine e =
       let t = then-fine-iff _ _ .0 e in
       let u = then-fine-iff _ _ .0 (t .1) in
-      record { few = leb-true n mostRules (fine-iff-holds _ _ .0 (t .0)); sizes = u .0; spelt = spelt-fine-iff n nodes pool .0 (u .1) }
+      record {
+        few = leb-true n mostRules (fine-iff-holds _ _ .0 (t .0));
+        sizes = u .0;
+        spelt = spelt-fine-iff n nodes pool .0 (u .1);
+      }
 
   -- a tree that is spelt is not refused
   pub fine-of-spelling : Spelling n nodes pool → treeVerdict n nodes pool ≡ Fine

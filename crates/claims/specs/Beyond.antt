@@ -11,7 +11,7 @@ use Rattle.text.specs.Text.{good, refused}
 use Rattle.console.specs.declared.gather.Gathering.{Gathering}
 use Rattle.console.specs.Gathered.{begun, after, answers, lastReply, inputReplies}
 use Rattle.policy.specs.Files.{listIn, treeOf}
-use Rattle.policy.specs.Output.{treeVerdict, byList, verdictLine, output, TreeServes}
+use Rattle.policy.specs.Output.{servingVerdict, byList, verdictLine, output, TreeServes}
 
 pub record Program : Type 0 where
   -- a rule file that is refused has its line written, and nothing else
@@ -21,9 +21,9 @@ pub record Program : Type 0 where
   -- whatever the tree file holds, after the line of a refused tree the input gets the replies of the written list
   pub replies :
       (f g : Option (List ℕ)) (s rs : List ℕ) → listIn f ≡ good rs →
-      output f g s ≡ verdictLine (treeVerdict rs (treeOf g)) ++ inputReplies (byList rs) s
+      output f g s ≡ verdictLine (servingVerdict rs (treeOf g)) ++ inputReplies (byList rs) s
   -- no tree is refused exactly where the file holds one that may serve
-  pub silent : (rs : List ℕ) (g : Option (List ℕ)) → (treeVerdict rs (treeOf g) ≡ Fine) ↔ TreeServes rs g
+  pub silent : (rs : List ℕ) (g : Option (List ℕ)) → (servingVerdict rs (treeOf g) ≡ Fine) ↔ TreeServes rs g
   -- pieces of input get what they get together, and byte by byte the whole gets the replies to its lines and last part
   pub pieces :
       (answer : List ℕ → List ℕ) (g : Gathering) (p q : List ℕ) →

@@ -30,7 +30,7 @@ use Rattle.console.proofs.Agreeing.{input-alike}
 use Rattle.policy.specs.Files.{listIn, treeOf}
 use Rattle.policy.specs.TakeList.{fileVerdict}
 use Rattle.policy.specs.TakeTree.{takeVerdict}
-use Rattle.policy.specs.Output.{ownVerdict, treeVerdict, byList, byServing, verdictLine, onList, output}
+use Rattle.policy.specs.Output.{ownVerdict, servingVerdict, byList, byServing, verdictLine, onList, output}
 use Rattle.policy.specs.Output.{TreeServes}
 use Rattle.policy.proofs.Serving.{serving-as-list}
 
@@ -38,23 +38,23 @@ use Rattle.policy.proofs.Serving.{serving-as-list}
 
 -- by whoever serves, every header gets the answer that the list gives
 pub served-as-list : (rs : List ℕ) (t : Reading Tree) (h : List ℕ) → byServing rs t h ≡ byList rs h
-unfolding byServing treeVerdict
+unfolding byServing servingVerdict
 served-as-list rs t h =
-    serving-as-list rs (nodesOf t) (poolOf t) (nodesOf t) (poolOf t) (treeVerdict rs t)
+    serving-as-list rs (nodesOf t) (poolOf t) (nodesOf t) (poolOf t) (servingVerdict rs t)
     (λ e. then-fine-iff _ _ .0 e .1) (λ e. (take-length (nodesOf t), take-length (poolOf t))) h
 
 module _ (f g : Option (List ℕ)) (s : List ℕ) where
   with-list : Reading (List ℕ) → List ℕ
-  with-list a = onList a (λ rs. verdictLine (treeVerdict rs (treeOf g)) ++ inputReplies (byServing rs (treeOf g)) s)
+  with-list a = onList a (λ rs. verdictLine (servingVerdict rs (treeOf g)) ++ inputReplies (byServing rs (treeOf g)) s)
 
   -- whatever the tree file holds, the input gets the replies of the written list
   pub output-by-list :
       {rs : List ℕ} → listIn f ≡ good rs →
-      output f g s ≡ verdictLine (treeVerdict rs (treeOf g)) ++ inputReplies (byList rs) s
+      output f g s ≡ verdictLine (servingVerdict rs (treeOf g)) ++ inputReplies (byList rs) s
   unfolding output with-list
   output-by-list {rs} e =
       ap with-list e ∙
-      ap (λ (l : List ℕ). verdictLine (treeVerdict rs (treeOf g)) ++ l)
+      ap (λ (l : List ℕ). verdictLine (servingVerdict rs (treeOf g)) ++ l)
       (input-alike (byServing rs (treeOf g)) (byList rs) (served-as-list rs (treeOf g)) s)
 
   -- a rule file that is refused has its line written, and nothing else
@@ -65,8 +65,8 @@ module _ (f g : Option (List ℕ)) (s : List ℕ) where
 -- ---- the tree that is not refused
 
 -- no line is written for the tree exactly where its file holds a tree that may serve
-pub accepted-iff : (rs : List ℕ) (f : Option (List ℕ)) → (treeVerdict rs (treeOf f) ≡ Fine) ↔ TreeServes rs f
-unfolding treeVerdict
+pub accepted-iff : (rs : List ℕ) (f : Option (List ℕ)) → (servingVerdict rs (treeOf f) ≡ Fine) ↔ TreeServes rs f
+unfolding servingVerdict
 accepted-iff rs f = (λ e. to (treeOf f) refl e, of)
   where
     to :
@@ -77,9 +77,9 @@ accepted-iff rs f = (λ e. to (treeOf f) refl e, of)
         let ok = then-fine-iff Fine (checkVerdict rs ns es) .0 e .1 in
         record { count = n; nodes = ns; pool = es; holds = q; serves = accepts-iff-serves rs ns es .0 ok }
 
-    of : TreeServes rs f → treeVerdict rs (treeOf f) ≡ Fine
+    of : TreeServes rs f → servingVerdict rs (treeOf f) ≡ Fine
     of s =
-        ap (treeVerdict rs) (s .holds) ∙
+        ap (servingVerdict rs) (s .holds) ∙
         then-fine {v = Fine} _ refl ∙ accepts-iff-serves rs (s .nodes) (s .pool) .1 (s .serves)
 
 -- ---- the program's rooms
@@ -98,8 +98,8 @@ list-room (some s) {a} h = go (rulesIn s) refl
 -- words for the most nodes and for the longest pool are room for any tree
 pub tree-room :
     (rs : List ℕ) (f : Option (List ℕ)) {a b : ℕ} → mostNodes * nodeWords ≤ a → mostPool ≤ b →
-    takeVerdict rs (treeOf f) a b ≡ treeVerdict rs (treeOf f)
-unfolding takeVerdict treeVerdict treeOf verdictOf roomFor
+    takeVerdict rs (treeOf f) a b ≡ servingVerdict rs (treeOf f)
+unfolding takeVerdict servingVerdict treeOf verdictOf roomFor
 tree-room rs f {a} {b} h k = ap (λ v. v then checkVerdict rs (nodesOf (treeOf f)) (poolOf (treeOf f))) (at f)
   where
     held : (s : List ℕ) (t : Reading Tree) → treeIn s ≡ t → verdictOf t a b ≡ ownVerdict t

@@ -1,5 +1,5 @@
 -- What the program writes, from the bytes of its two files and of its input. Definitions only.
---   treeVerdict rs t     what is refused of the tree t that a file holds, for the list rs, where there is room for any
+--   servingVerdict rs t  what is refused of the tree t that a file holds, for the list rs, where there is room for any
 --   byList rs            the answer to a header by the list rs alone
 --   byServing rs t       the answer to a header by whoever serves the list rs, the tree file holding t
 --   verdictLine v        the line of a refusal; nothing where the verdict is fine
@@ -31,8 +31,8 @@ abbrev pub ownVerdict : {R : Type 0} → Reading R → Verdict
 ownVerdict (good r) = Fine
 ownVerdict (refused why) = Refused why
 
-unfoldable pub treeVerdict : List ℕ → Reading Tree → Verdict
-treeVerdict rs t = ownVerdict t then checkVerdict rs (nodesOf t) (poolOf t)
+unfoldable pub servingVerdict : List ℕ → Reading Tree → Verdict
+servingVerdict rs t = ownVerdict t then checkVerdict rs (nodesOf t) (poolOf t)
 
 unfoldable pub byList : List ℕ → List ℕ → List ℕ
 byList rs = answerTo false rs [] []
@@ -41,7 +41,7 @@ abbrev pub answersBy : Serving → List ℕ → List ℕ → List ℕ → List �
 answersBy s rs ns es = answerTo (s .accepted) rs (take (s .nodes) ns) (take (s .pool) es)
 
 unfoldable pub byServing : List ℕ → Reading Tree → List ℕ → List ℕ
-byServing rs t = answersBy (serving (treeVerdict rs t) (nodesOf t) (poolOf t)) rs (nodesOf t) (poolOf t)
+byServing rs t = answersBy (serving (servingVerdict rs t) (nodesOf t) (poolOf t)) rs (nodesOf t) (poolOf t)
 
 abbrev pub verdictLine : Verdict → List ℕ
 verdictLine Fine = []
@@ -53,7 +53,7 @@ onList (good rs) go = go rs
 
 unfoldable pub output : Option (List ℕ) → Option (List ℕ) → List ℕ → List ℕ
 output f g s =
-    onList (listIn f) (λ rs. verdictLine (treeVerdict rs (treeOf g)) ++ inputReplies (byServing rs (treeOf g)) s)
+    onList (listIn f) (λ rs. verdictLine (servingVerdict rs (treeOf g)) ++ inputReplies (byServing rs (treeOf g)) s)
 
 pub record TreeServes (rs : List ℕ) (f : Option (List ℕ)) : Type 0 where
   pub count : ℕ

@@ -20,7 +20,7 @@ use Rattle.policy.specs.TakeList.{ListTaken}
 use Rattle.policy.specs.TakeTree.{TreeTaken}
 use Rattle.policy.proofs.Listing.{taken-list, list-good}
 use Rattle.policy.proofs.Serving.{taken-as-list}
-use Rattle.wickorchard.specs.Handed.{IsList, AsList, InFront, Holds}
+use Rattle.wickorchard.specs.Handed.{ListOfFile, AnswersAsList, InFront, ReplyInFront}
 
 -- bytes that were written in front stand there
 pub front-written :
@@ -33,7 +33,7 @@ front-written bs before {after} {n} e k =
     }
 
 -- what was said stands in front
-pub said-holds : {bs before after : List ℕ} (r : Replied) → Said bs before r after → Holds bs after r
+pub said-holds : {bs before after : List ℕ} (r : Replied) → Said bs before r after → ReplyInFront bs after r
 said-holds (Refused why) s = tt
 said-holds {bs} {before} (Written n) s =
     let w = success-giving (roomVerdict (length bs) (length before)) (length bs ∷ []) (s .answers) in
@@ -45,13 +45,13 @@ said-holds {bs} {before} (Written n) s =
 -- a list that was taken is the list of a file
 pub list-handed :
     {f : Option (List ℕ)} {before after : List ℕ} {l : Listed} {n : ℕ} → ListTaken f before l after → l ≡ Words n →
-    IsList (take n after) × (n ≤ length after)
+    ListOfFile (take n after) × (n ≤ length after)
 list-handed {f} {before} {after} t e =
     let w = taken-list (subst (λ (x : Listed). ListTaken f before x after) e t) in ((f, w .0), w .1)
 
 -- whoever was left to serve answers as the list does
 pub serving-handed :
-    {rs : List ℕ} {f : Option (List ℕ)} {nodes pool nodes′ pool′ : List ℕ} {r : Serving} → IsList rs →
+    {rs : List ℕ} {f : Option (List ℕ)} {nodes pool nodes′ pool′ : List ℕ} {r : Serving} → ListOfFile rs →
     TreeTaken rs f nodes pool r nodes′ pool′ →
-    AsList rs (take (r .nodes) nodes′) (take (r .pool) pool′) (r .accepted)
+    AnswersAsList rs (take (r .nodes) nodes′) (take (r .pool) pool′) (r .accepted)
 serving-handed l t = record { list = list-good (l .0) (l .1); answers = taken-as-list t }

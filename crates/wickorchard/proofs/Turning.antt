@@ -1,4 +1,4 @@
--- A piece of input, answered in parts. `Turned` is the invariant: the line that is being gathered is that after the
+-- A piece of input, answered in parts. `Head` is the invariant: the line that is being gathered is that after the
 -- bytes below a place.
 use Prim.Native.Nat.{ℕ, _+_, _-_, _≤_, _<_}
 use native.Mathlib.Omega.{arith}
@@ -21,30 +21,30 @@ use Rattle.console.proofs.Short.{answer-short, some-taken}
 use Rattle.policy.specs.Output.{byList}
 use Rattle.wickorchard.specs.declared.load.Got.{Got}
 use Rattle.wickorchard.specs.declared.serve.Turn.{Turn}
-use Rattle.wickorchard.specs.Handed.{AsList, InFront}
-use Rattle.wickorchard.specs.Turns.{going, stopped, first, PieceAnswered, all, ByGot, GotAnswered}
-use Rattle.wickorchard.specs.Turns.{lastOf}
+use Rattle.wickorchard.specs.Handed.{AnswersAsList, InFront}
+use Rattle.wickorchard.specs.Turns.{moreToRead, outputFailed, firstTurn, PieceAnswered, all, ByGot, GotAnswered}
+use Rattle.wickorchard.specs.Turns.{dueAtEnd}
 use Rattle.wickorchard.proofs.Standing.{front-written}
 
-pub record Turned (from : Gathering) (piece : List ℕ) (g : Gathering) (at : ℕ) : Type 0 where
+pub record Head (from : Gathering) (piece : List ℕ) (g : Gathering) (at : ℕ) : Type 0 where
   pub within : at ≤ length piece
   pub state : g ≡ after from (take at piece)
 
 -- before the first byte the line is as it was
-pub turned-first : (from : Gathering) (piece : List ℕ) → Turned from piece from 0
+pub head-first : (from : Gathering) (piece : List ℕ) → Head from piece from 0
 unfolding after
-turned-first from piece = record { within = omega arith; state = refl }
+head-first from piece = record { within = omega arith; state = refl }
 
 -- at the end the whole piece is answered
-pub turned-last :
-    {from g : Gathering} {piece : List ℕ} {at : ℕ} {r : Turn} → Turned from piece g at → length piece ≤ at →
-    r ≡ going g → PieceAnswered from piece r
-turned-last {from} {piece = piece} {at = at} t h e =
-    all (e ∙ ap going (t .state ∙ ap (after from) (take-all at piece h)))
+pub head-last :
+    {from g : Gathering} {piece : List ℕ} {at : ℕ} {r : Turn} → Head from piece g at → length piece ≤ at →
+    r ≡ moreToRead g → PieceAnswered from piece r
+head-last {from} {piece = piece} {at = at} t h e =
+    all (e ∙ ap moreToRead (t .state ∙ ap (after from) (take-all at piece h)))
 
 -- by whoever answers as the list does, no answer is longer than the longest reply
 short-by :
-    {rs ns es : List ℕ} {by : Bool} → AsList rs ns es by → (h : List ℕ) →
+    {rs ns es : List ℕ} {by : Bool} → AnswersAsList rs ns es by → (h : List ℕ) →
     length (answerTo by rs ns es h) ≤ mostReply
 unfolding byList
 short-by {rs} a h = rw (a .answers h) (answer-short rs [] [] (a .list) h)
@@ -56,21 +56,21 @@ rest-more piece at h =
 
 module _
     {answer : List ℕ → List ℕ} {from g : Gathering} {piece before new : List ℕ} {at : ℕ} {r : Fed}
-    (t : Turned from piece g at) (f : IsFed answer g (restOf at piece) before r new)
+    (t : Head from piece g at) (f : IsFed answer g (restOf at piece) before r new)
     (most : r .taken ≤ length (restOf at piece)) where
   -- no more bytes are taken than are left
-  pub turned-within : at + r .taken ≤ length piece
-  turned-within =
+  pub head-within : at + r .taken ≤ length piece
+  head-within =
       omega (arith, t .within, most, length-take (length piece - at) (drop at piece), length-drop at piece)
 
   part-of : take (r .taken) (restOf at piece) ≡ take (r .taken) (drop at piece)
-  part-of = take-take (r .taken) (length piece - at) (drop at piece) (omega (arith, turned-within, t .within))
+  part-of = take-take (r .taken) (length piece - at) (drop at piece) (omega (arith, head-within, t .within))
 
   -- after them the line is that which is left gathered
-  pub turned-more : Turned from piece (r .gathering) (at + r .taken)
-  turned-more =
+  pub head-step : Head from piece (r .gathering) (at + r .taken)
+  head-step =
       record {
-        within = turned-within;
+        within = head-within;
         state =
             f .state ∙ ap (after g) part-of ∙
             ap (λ (x : Gathering). after x (take (r .taken) (drop at piece))) (t .state) ∙
@@ -79,17 +79,17 @@ module _
       }
 
   -- their replies stand in front
-  pub turned-front : InFront (answers answer g (take (at + r .taken - at) (drop at piece))) (r .filled) new
-  turned-front =
+  pub head-front : InFront (answers answer g (take (at + r .taken - at) (drop at piece))) (r .filled) new
+  head-front =
       let size : at + r .taken - at ≡ r .taken = omega arith in
       rw (size, ← part-of) (front-written _ before (f .bytes) (f .filled))
 
 -- where there is room for the longest reply, and bytes are left, some are taken
-pub turned-some :
+pub head-some :
     {rs ns es : List ℕ} {by : Bool} {from g : Gathering} {piece before new : List ℕ} {at : ℕ} {r : Fed} →
-    AsList rs ns es by → Turned from piece g at → IsFed (answerTo by rs ns es) g (restOf at piece) before r new →
+    AnswersAsList rs ns es by → Head from piece g at → IsFed (answerTo by rs ns es) g (restOf at piece) before r new →
     at < length piece → mostReply ≤ length before → 0 < r .taken
-turned-some {rs} {ns} {es} {by} {g = g} {piece = piece} {before = before} {at = at} a t f h room =
+head-some {rs} {ns} {es} {by} {g = g} {piece = piece} {before = before} {at = at} a t f h room =
     let some =
     some-taken (answerTo by rs ns es) (short-by a) (length before) g (getD piece at 0) (drop (at + 1) piece) room in
     let left : takenOf (answerTo by rs ns es) (length before) g (restOf at piece) ≡
@@ -107,19 +107,19 @@ got-by {g} {piece = piece} {r = r} e h = record { says = subst (λ (x : Got). By
 -- ---- the first turn and the last
 
 -- what comes before was told: more is to be read
-pub first-told : {told : Bool} → told ≡ true → going begun ≡ first told
-unfolding first
+pub first-told : {told : Bool} → told ≡ true → moreToRead begun ≡ firstTurn told
+unfolding firstTurn
 first-told e = rw e
 
 -- it could not be told: nothing is
-pub first-untold : {told : Bool} → told ≡ false → stopped begun ≡ first told
-unfolding first
+pub first-untold : {told : Bool} → told ≡ false → outputFailed begun ≡ firstTurn told
+unfolding firstTurn
 first-untold e = rw e
 
 -- where a reply was not written, nothing is due at the end
-pub last-unwritten : (t : Turn) → t .written ≡ false → [] ≡ lastOf t
+pub last-unwritten : (t : Turn) → t .written ≡ false → [] ≡ dueAtEnd t
 last-unwritten t e = rw e
 
 -- else the reply to the last part is
-pub last-written : (t : Turn) → t .written ≡ true → lastReply (t .gathering) ≡ lastOf t
+pub last-written : (t : Turn) → t .written ≡ true → lastReply (t .gathering) ≡ dueAtEnd t
 last-written t e = rw e

@@ -1,9 +1,9 @@
 -- What is handed from one function of the program to the next. Definitions only.
---   IsList rs                  rs is the list that some rule file holds
---   AsList rs ns es accepted   the list is good, and every header gets, by the tree if it is accepted, the answer that
---                              the list gives
+--   ListOfFile rs              rs is the list that some rule file holds
+--   AnswersAsList rs ns es accepted    the list is good, and every header gets, by the tree if it is accepted, the
+--                              answer that the list gives
 --   InFront bs n out           the first n bytes of out are bs
---   Holds bs out said          so for a reply; nothing is asked of one that found no room
+--   ReplyInFront bs out said   the same for a reply; nothing is asked of one that found no room
 use Prim.Native.Nat.{ℕ, _≤_}
 use mathlib.Core.Bool.{Bool}
 use mathlib.Core.Path.{_≡_}
@@ -19,10 +19,10 @@ use Rattle.console.specs.Replies.{answerTo}
 use Rattle.policy.specs.Files.{listIn}
 use Rattle.policy.specs.Output.{byList}
 
-abbrev pub IsList : List ℕ → Type 0
-IsList rs = (f : Option (List ℕ)) × (listIn f ≡ good rs)
+abbrev pub ListOfFile : List ℕ → Type 0
+ListOfFile rs = (f : Option (List ℕ)) × (listIn f ≡ good rs)
 
-pub record AsList (rs ns es : List ℕ) (accepted : Bool) : Type 0 where
+pub record AnswersAsList (rs ns es : List ℕ) (accepted : Bool) : Type 0 where
   pub list : listVerdict rs ≡ Fine
   pub answers : (h : List ℕ) → answerTo accepted rs ns es h ≡ byList rs h
 
@@ -30,6 +30,6 @@ pub record InFront (bs : List ℕ) (n : ℕ) (out : List ℕ) : Type 0 where
   pub within : n ≤ length out
   pub are : take n out ≡ bs
 
-abbrev pub Holds : List ℕ → List ℕ → Replied → Type 0
-Holds bs out (Refused why) = Unit {0}
-Holds bs out (Written n) = InFront bs n out
+abbrev pub ReplyInFront : List ℕ → List ℕ → Replied → Type 0
+ReplyInFront bs out (Refused why) = Unit {0}
+ReplyInFront bs out (Written n) = InFront bs n out

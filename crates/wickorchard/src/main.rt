@@ -21,7 +21,7 @@ use trees::words::MOST_POOL;
 use trees::words::NODE_WORDS;
 ghost use Prim.Native.Nat.{_^_, _<_};
 ghost use lib.ListN.{length};
-ghost use Rattle.wickorchard.specs.Handed.{IsList};
+ghost use Rattle.wickorchard.specs.Handed.{ListOfFile};
 
 const RULES_FILE: [u8; 9] = *b"rules.txt";
 
@@ -45,7 +45,7 @@ fn main() {
 
 // Answers by the tree where its file is accepted. Where it is refused, that is said, and the list answers.
 fn answer(buffer: &mut [u8], rules: &[u32])
-    requires { ⌜ IsList (now rules) ⌝ }
+    requires { ⌜ ListOfFile (now rules) ⌝ }
     requires { ⌜ length (now buffer) < 2 ^ 63 ⌝ }
 {
     let mut nodes = [0u32; MOST_NODES * NODE_WORDS];

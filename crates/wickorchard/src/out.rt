@@ -12,8 +12,8 @@ ghost use Rattle.console.specs.Lines.{Said};
 ghost use Rattle.console.specs.Replies.{answerTo};
 ghost use Rattle.console.specs.Gathered.{answers};
 ghost use Rattle.policy.specs.Output.{verdictLine};
-ghost use Rattle.wickorchard.specs.Handed.{InFront, Holds};
-ghost use Rattle.wickorchard.specs.Turns.{lastOf};
+ghost use Rattle.wickorchard.specs.Handed.{InFront, ReplyInFront};
+ghost use Rattle.wickorchard.specs.Turns.{dueAtEnd};
 
 // The most bytes of the line of a refusal: `refused`, three numbers of at most 20 digits, their tabs and the newline.
 const MOST_REFUSED: usize = 71;
@@ -34,7 +34,7 @@ pub(crate) fn say_last(turn: Turn) -> bool {
 
 // What is due at the end of the input, from the front of `out` on: nothing where a reply before it was not written.
 fn last_line(turn: Turn, out: &mut [u8]) -> Replied
-    ensures { λ r. ⌜ Said (lastOf turn) (now (out .entry)) r (now (out .exit)) ⌝ }
+    ensures { λ r. ⌜ Said (dueAtEnd turn) (now (out .entry)) r (now (out .exit)) ⌝ }
 {
     let from = turn.gathering;
     if !turn.written {
@@ -45,7 +45,7 @@ fn last_line(turn: Turn, out: &mut [u8]) -> Replied
 
 // Writes what is due for a verdict.
 fn write_verdict(verdict: Verdict, said: Replied, out: &[u8]) -> bool
-    requires { ⌜ Holds (verdictLine verdict) (now out) said ⌝ }
+    requires { ⌜ ReplyInFront (verdictLine verdict) (now out) said ⌝ }
 {
     match said {
         Replied::Refused(_) => false,
@@ -55,7 +55,7 @@ fn write_verdict(verdict: Verdict, said: Replied, out: &[u8]) -> bool
 
 // Writes what is due at the end of the input.
 fn write_last(turn: Turn, said: Replied, out: &[u8]) -> bool
-    requires { ⌜ Holds (lastOf turn) (now out) said ⌝ }
+    requires { ⌜ ReplyInFront (dueAtEnd turn) (now out) said ⌝ }
 {
     match said {
         Replied::Refused(_) => false,

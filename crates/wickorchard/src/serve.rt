@@ -11,8 +11,9 @@ ghost use mathlib.Core.Path.{_≡_};
 ghost use lib.ListN.{length};
 ghost use Rattle.console.specs.Lines.{mostReply};
 ghost use Rattle.wickorchard.specs.Reads.{Gets};
-ghost use Rattle.wickorchard.specs.Handed.{AsList};
-ghost use Rattle.wickorchard.specs.Turns.{going, ended, stopped, first, PieceAnswered, GotAnswered};
+ghost use Rattle.wickorchard.specs.Handed.{AnswersAsList};
+ghost use Rattle.wickorchard.specs.Turns.{moreToRead, inputEnded, outputFailed, firstTurn};
+ghost use Rattle.wickorchard.specs.Turns.{PieceAnswered, GotAnswered};
 
 // The bytes that are read at once at most, and the bytes of replies that are written at once at most.
 const PIECE: usize = 65536;
@@ -28,11 +29,11 @@ pub struct Turn {
 // it does not begin where the refusal of the tree could not be told. Nothing proves that input ends, so the reads are
 // counted down, from a number that no run uses up.
 pub(crate) fn serve(rules: &[u32], nodes: &[u32], pool: &[u32], accepted: bool, told: bool)
-    requires { ⌜ AsList (now rules) (now nodes) (now pool) accepted ⌝ }
+    requires { ⌜ AnswersAsList (now rules) (now nodes) (now pool) accepted ⌝ }
 {
     let mut piece = [0u8; PIECE];
     let mut out = [0u8; PIECE];
-    let mut turn = first(told);
+    let mut turn = first_turn(told);
     let mut reads = u64::MAX;
     while reads > 0 && turn.more {
         turn = answer_some(rules, nodes, pool, accepted, turn, &mut piece, &mut out);
@@ -51,7 +52,7 @@ fn answer_some(
     piece: &mut [u8],
     out: &mut [u8],
 ) -> Turn
-    requires { ⌜ AsList (now rules) (now nodes) (now pool) accepted ⌝ }
+    requires { ⌜ AnswersAsList (now rules) (now nodes) (now pool) accepted ⌝ }
     requires { ⌜ mostReply ≤ length (now out) ⌝ }
 {
     let got = read_some(STDIN_FILENO, piece);
@@ -69,15 +70,15 @@ fn answer_got(
     piece: &[u8],
     out: &mut [u8],
 ) -> Turn
-    requires { ⌜ AsList (now rules) (now nodes) (now pool) accepted ⌝ }
+    requires { ⌜ AnswersAsList (now rules) (now nodes) (now pool) accepted ⌝ }
     requires { ⌜ mostReply ≤ length (now out) ⌝ }
     requires { ⌜ Gets (now piece) got ⌝ }
     ensures { λ r. ⌜ GotAnswered (turn .gathering) got (now (piece .entry)) r ⌝ }
 {
     let from = turn.gathering;
     match got {
-        Got::Failed => ended(from),
-        Got::Ended => ended(from),
+        Got::Failed => input_ended(from),
+        Got::Ended => input_ended(from),
         Got::Bytes { count } => answer_piece(
             rules,
             nodes,
@@ -100,7 +101,7 @@ fn answer_piece(
     piece: &[u8],
     out: &mut [u8],
 ) -> Turn
-    requires { ⌜ AsList (now rules) (now nodes) (now pool) accepted ⌝ }
+    requires { ⌜ AnswersAsList (now rules) (now nodes) (now pool) accepted ⌝ }
     requires { ⌜ mostReply ≤ length (now out) ⌝ }
     ensures { λ r. ⌜ PieceAnswered from (now (piece .entry)) r ⌝ }
 {
@@ -120,27 +121,27 @@ fn answer_piece(
             filled,
             out,
         ) {
-            return stopped(from);
+            return output_failed(from);
         }
         gathering = fed.gathering;
         at = end;
     }
-    going(gathering)
+    more_to_read(gathering)
 }
 
 // Before the first read: there is nothing to be read where what comes before it could not be told.
-fn first(told: bool) -> Turn
-    ensures { λ r. ⌜ r ≡ first told ⌝ }
+fn first_turn(told: bool) -> Turn
+    ensures { λ r. ⌜ r ≡ firstTurn told ⌝ }
 {
     if told {
-        return going(Gathering::start());
+        return more_to_read(Gathering::start());
     }
-    stopped(Gathering::start())
+    output_failed(Gathering::start())
 }
 
 // More is to be read.
-fn going(gathering: Gathering) -> Turn
-    ensures { λ r. ⌜ r ≡ going gathering ⌝ }
+fn more_to_read(gathering: Gathering) -> Turn
+    ensures { λ r. ⌜ r ≡ moreToRead gathering ⌝ }
 {
     Turn {
         more: true,
@@ -150,8 +151,8 @@ fn going(gathering: Gathering) -> Turn
 }
 
 // No more is to be read.
-fn ended(gathering: Gathering) -> Turn
-    ensures { λ r. ⌜ r ≡ ended gathering ⌝ }
+fn input_ended(gathering: Gathering) -> Turn
+    ensures { λ r. ⌜ r ≡ inputEnded gathering ⌝ }
 {
     Turn {
         more: false,
@@ -161,8 +162,8 @@ fn ended(gathering: Gathering) -> Turn
 }
 
 // A reply was not written.
-fn stopped(gathering: Gathering) -> Turn
-    ensures { λ r. ⌜ r ≡ stopped gathering ⌝ }
+fn output_failed(gathering: Gathering) -> Turn
+    ensures { λ r. ⌜ r ≡ outputFailed gathering ⌝ }
 {
     Turn {
         more: false,

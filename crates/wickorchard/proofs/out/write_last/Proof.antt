@@ -1,7 +1,7 @@
 -- `wickorchard::out::write_last` is safe: what is due stands in front of the bytes. Assumes nothing.
 use mathlib.Core.Path.{subst}
 use borrow.Author.Needs.{needs}
-use Rattle.wickorchard.specs.Handed.{Holds}
+use Rattle.wickorchard.specs.Handed.{ReplyInFront}
 use Rattle.wickorchard.proofs.out.write_last.Statement.{statement}
 use Rattle.wickorchard.proofs.out.write_last.Tie as tie
 
@@ -14,7 +14,7 @@ enum-known-said c = search needs
 write-front-requires : tie.Need-write-front-requires
 write-front-requires c κs =
     let w = c .before .before .before .before in
-    subst (Holds _ _) (c .before .said .given .1) (w .pre) .within
+    subst (ReplyInFront _ _) (c .before .said .given .1) (w .pre) .within
 
 returns : tie.Need-returns
 returns c = search needs

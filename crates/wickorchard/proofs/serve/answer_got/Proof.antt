@@ -9,14 +9,14 @@ use Rattle.wickorchard.proofs.serve.answer_got.Tie as tie
 enum-told : tie.Need-enum-told
 enum-told c = search needs
 
-ended-requires : tie.Need-ended-requires
-ended-requires c κs = search needs
+input-ended-requires : tie.Need-input-ended-requires
+input-ended-requires c κs = search needs
 
 enum-told-2 : tie.Need-enum-told-2
 enum-told-2 c = search needs
 
-ended-requires-2 : tie.Need-ended-requires-2
-ended-requires-2 c κs = search needs
+input-ended-requires-2 : tie.Need-input-ended-requires-2
+input-ended-requires-2 c κs = search needs
 
 enum-known-got : tie.Need-enum-known-got
 enum-known-got c = search needs
@@ -30,10 +30,10 @@ answer-piece-requires : tie.Need-answer-piece-requires
 answer-piece-requires c κs = search needs
 
 returns : tie.Need-returns
-returns c = got-by (c .before .enum-told .given .1) (c .ended .ensures)
+returns c = got-by (c .before .enum-told .given .1) (c .input-ended .ensures)
 
 returns-2 : tie.Need-returns-2
-returns-2 c = got-by (c .before .enum-told2 .given .1) (c .ended2 .ensures)
+returns-2 c = got-by (c .before .enum-told2 .given .1) (c .input-ended2 .ensures)
 
 same-length : tie.Need-same-length
 same-length c = search needs
@@ -48,9 +48,9 @@ answer-got-spec =
     tie.close
     (tie.spec
     enum-told
-    ended-requires
+    input-ended-requires
     enum-told-2
-    ended-requires-2
+    input-ended-requires-2
     enum-known-got
     slice-aggregate-answer-piece
     answer-piece-requires

@@ -5,14 +5,14 @@ use native.Mathlib.Omega.{arith}
 use mathlib.Core.Path.{_≡_}
 use lib.ListN.{length}
 use Rattle.wickorchard.specs.Turns.{unwritten}
-use Rattle.wickorchard.proofs.Turning.{Turned, turned-first, turned-last, turned-within, turned-more}
-use Rattle.wickorchard.proofs.Turning.{turned-front, turned-some}
+use Rattle.wickorchard.proofs.Turning.{Head, head-first, head-last, head-within, head-step}
+use Rattle.wickorchard.proofs.Turning.{head-front, head-some}
 use Rattle.wickorchard.proofs.serve.answer_piece.Statement.{statement}
 use Rattle.wickorchard.proofs.serve.answer_piece.Tie as tie
 
 abbrev Inv-loop : tie.InvT-loop
 Inv-loop rules nodes pool accepted from piece out₀ gathering₀ at₀ out gathering at =
-    Turned from piece gathering at × (length out ≡ length out₀)
+    Head from piece gathering at × (length out ≡ length out₀)
 
 abbrev μ-loop : tie.MeasureT-loop
 μ-loop rules nodes pool accepted from piece out₀ gathering₀ at₀ out gathering at = length piece - at
@@ -24,10 +24,10 @@ within :
     here .at + c .feed .result .taken ≤ length piece
 within c =
     let here = c .before .before .before .before .loop in
-    turned-within (here .inv .0) (c .feed .ensures .0) (c .feed .ensures .1 .0)
+    head-within (here .inv .0) (c .feed .ensures .0) (c .feed .ensures .1 .0)
 
 loop-holds : tie.Need-loop-holds Inv-loop μ-loop
-loop-holds c = (turned-first _ _, omega arith)
+loop-holds c = (head-first _ _, omega arith)
 
 sub-feed : tie.Need-sub-feed Inv-loop μ-loop
 sub-feed c = omega arith
@@ -57,39 +57,39 @@ write-replies-requires : tie.Need-write-replies-requires Inv-loop μ-loop
 write-replies-requires c κs =
     let fed = c .before .before .before .before .before in
     let here = fed .before .before .before .before in
-    turned-front (here .loop .inv .0) (fed .feed .ensures .0) (fed .feed .ensures .1 .0)
+    head-front (here .loop .inv .0) (fed .feed .ensures .0) (fed .feed .ensures .1 .0)
 
-stopped-requires : tie.Need-stopped-requires Inv-loop μ-loop
-stopped-requires c κs = tt
+output-failed-requires : tie.Need-output-failed-requires Inv-loop μ-loop
+output-failed-requires c κs = tt
 
 same-length : tie.Need-same-length Inv-loop μ-loop
 same-length c = omega arith
 
 returns : tie.Need-returns Inv-loop μ-loop
-returns c = unwritten (c .stopped .ensures)
+returns c = unwritten (c .output-failed .ensures)
 
 loop-less : tie.Need-loop-less Inv-loop μ-loop
 loop-less c =
     let fed = c .before .before .before .before .before .before .before .before in
     let here = fed .before .before .before .before in
     let start = here .before .before .before .before .before .before in
-    let some = turned-some (start .pre .0) (here .loop .inv .0) (fed .feed .ensures .0) (omega arith) (omega arith) in
+    let some = head-some (start .pre .0) (here .loop .inv .0) (fed .feed .ensures .0) (omega arith) (omega arith) in
     omega (arith, within fed, some)
 
 loop-again : tie.Need-loop-again Inv-loop μ-loop
 loop-again c =
     let fed = c .before .before .before .before .before .before .before .before in
     let here = fed .before .before .before .before in
-    (turned-more (here .loop .inv .0) (fed .feed .ensures .0) (fed .feed .ensures .1 .0), omega arith)
+    (head-step (here .loop .inv .0) (fed .feed .ensures .0) (fed .feed .ensures .1 .0), omega arith)
 
-going-requires : tie.Need-going-requires Inv-loop μ-loop
-going-requires c κs = tt
+more-to-read-requires : tie.Need-more-to-read-requires Inv-loop μ-loop
+more-to-read-requires c κs = tt
 
 same-length-2 : tie.Need-same-length-2 Inv-loop μ-loop
 same-length-2 c = omega arith
 
 returns-2 : tie.Need-returns-2 Inv-loop μ-loop
-returns-2 c = turned-last (c .before .before .loop .inv .0) (omega arith) (c .going .ensures)
+returns-2 c = head-last (c .before .before .loop .inv .0) (omega arith) (c .more-to-read .ensures)
 
 pub answer-piece-spec : {M : Type 1} → statement M
 answer-piece-spec =
@@ -107,11 +107,11 @@ answer-piece-spec =
     part-write-replies-start
     part-write-replies-end
     write-replies-requires
-    stopped-requires
+    output-failed-requires
     same-length
     returns
     loop-less
     loop-again
-    going-requires
+    more-to-read-requires
     same-length-2
     returns-2)

@@ -12,8 +12,8 @@ Inv-loop rules nodes pool accepted told piece₀ out₀ turn₀ reads₀ piece o
 abbrev μ-loop : tie.MeasureT-loop
 μ-loop rules nodes pool accepted told piece₀ out₀ turn₀ reads₀ piece out turn reads = reads
 
-first-requires : tie.Need-first-requires Inv-loop μ-loop
-first-requires c κs = tt
+first-turn-requires : tie.Need-first-turn-requires Inv-loop μ-loop
+first-turn-requires c κs = tt
 
 loop-holds : tie.Need-loop-holds Inv-loop μ-loop
 loop-holds c = omega arith
@@ -50,7 +50,7 @@ serve-spec =
     (tie.spec
     Inv-loop
     μ-loop
-    first-requires
+    first-turn-requires
     loop-holds
     slice-aggregate-answer-some
     slice-aggregate-answer-some-2

@@ -77,6 +77,7 @@ code-claim = (
   in-console.feed.last_reply.Met.met,
   in-policy.list.take_list.Met.met,
   in-policy.tree.take_tree.Met.met,
+  in-policy.serving.who_serves.Met.met,
   in-policy.line.verdict_line.Met.met,
   exports.line.wick_rule_check.Met.met,
   exports.line.wick_line_all.Met.met,
@@ -192,5 +193,5 @@ calls-claim =
       read-pool = pool-read-writes;
       reply = reply-writes;
       take-list = list-taken-writes;
-      take-tree = λ rs f ns es x y p q. same-three (tree-taken-unique p q);
+      take-tree = λ f ns es x y p q. same-three (tree-taken-unique p q);
     }

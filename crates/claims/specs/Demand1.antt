@@ -33,7 +33,8 @@ Code M =
     in-tree-file.write.write_tree.Statement.statement M × in-tree-file.read.read_tree.Statement.statement M ×
     in-console.reply.reply.Statement.statement M × in-console.feed.feed.Statement.statement M ×
     in-console.feed.last_reply.Statement.statement M × in-policy.list.take_list.Statement.statement M ×
-    in-policy.tree.take_tree.Statement.statement M × in-policy.line.verdict_line.Statement.statement M ×
+    in-policy.tree.take_tree.Statement.statement M × in-policy.serving.who_serves.Statement.statement M ×
+    in-policy.line.verdict_line.Statement.statement M ×
     exports.line.wick_rule_check.Statement.statement M × exports.line.wick_line_all.Statement.statement M ×
     exports.line.wick_line_first.Statement.statement M × exports.tree.wick_tree_all.Statement.statement M ×
     exports.tree.wick_tree_first.Statement.statement M × exports.tree.wick_tree_check.Statement.statement M ×
@@ -74,7 +75,6 @@ pub record Calls : Type 0 where
   pub take-list :
       (f : Option (List ℕ)) (w : List ℕ) → Writes w (policy.TakeList.ListTaken f w) policy.TakeList.paper (value 0)
   pub take-tree :
-      (rs : List ℕ) (f : Option (List ℕ)) (ns es : List ℕ) →
+      (f : Option (List ℕ)) (ns es : List ℕ) →
       Fixes
-      (λ (x : policy.declared.tree.Serving.Serving × List ℕ × List ℕ).
-      policy.TakeTree.TreeTaken rs f ns es (x .0) (x .1) (x .2))
+      (λ (x : policy.declared.tree.Taken.Taken × List ℕ × List ℕ). policy.TakeTree.TreeTaken f ns es (x .0) (x .1) (x .2))

@@ -13,7 +13,7 @@ use Rattle.policy.specs.declared.file.File.the-variants.{NotRead, Bytes}
 use Rattle.policy.specs.Files.{textIn}
 
 -- the first n bytes are as many of them as are there
-take-within : (n : ℕ) (bytes : List ℕ) → take (min n (length bytes)) bytes ≡ take n bytes
+pub take-within : (n : ℕ) (bytes : List ℕ) → take (min n (length bytes)) bytes ≡ take n bytes
 take-within n bytes = go (split n (length bytes))
   where
     go : Split n (length bytes) → take (min n (length bytes)) bytes ≡ take n bytes

@@ -1,6 +1,7 @@
 -- The laws of the policy, by subject.
 pub mod Bytes
 pub mod Listing
-pub mod Serving
+pub mod Taking
+pub mod Servers
 pub mod Output
 pub mod Unique

@@ -29,19 +29,18 @@ use Rattle.console.specs.Gathered.{inputReplies}
 use Rattle.console.proofs.Agreeing.{input-alike}
 use Rattle.policy.specs.Files.{listIn, treeOf}
 use Rattle.policy.specs.TakeList.{fileVerdict}
-use Rattle.policy.specs.TakeTree.{takeVerdict}
 use Rattle.policy.specs.Output.{ownVerdict, servingVerdict, byList, byServing, verdictLine, onList, output}
 use Rattle.policy.specs.Output.{TreeServes}
-use Rattle.policy.proofs.Serving.{serving-as-list}
+use Rattle.policy.proofs.Servers.{serving-as-list}
 
 -- ---- the replies
 
 -- by whoever serves, every header gets the answer that the list gives
-pub served-as-list : (rs : List ℕ) (t : Reading Tree) (h : List ℕ) → byServing rs t h ≡ byList rs h
+by-serving-as-list : (rs : List ℕ) (t : Reading Tree) (h : List ℕ) → byServing rs t h ≡ byList rs h
 unfolding byServing servingVerdict
-served-as-list rs t h =
+by-serving-as-list rs t h =
     serving-as-list rs (nodesOf t) (poolOf t) (nodesOf t) (poolOf t) (servingVerdict rs t)
-    (λ e. then-fine-iff _ _ .0 e .1) (λ e. (take-length (nodesOf t), take-length (poolOf t))) h
+    (λ e. then-fine-iff _ _ .0 e .1) (take-length (nodesOf t)) (take-length (poolOf t)) h
 
 module _ (f g : Option (List ℕ)) (s : List ℕ) where
   with-list : Reading (List ℕ) → List ℕ
@@ -55,7 +54,7 @@ module _ (f g : Option (List ℕ)) (s : List ℕ) where
   output-by-list {rs} e =
       ap with-list e ∙
       ap (λ (l : List ℕ). verdictLine (servingVerdict rs (treeOf g)) ++ l)
-      (input-alike (byServing rs (treeOf g)) (byList rs) (served-as-list rs (treeOf g)) s)
+      (input-alike (byServing rs (treeOf g)) (byList rs) (by-serving-as-list rs (treeOf g)) s)
 
   -- a rule file that is refused has its line written, and nothing else
   pub output-refused : {why : Refusal} → listIn f ≡ refused why → output f g s ≡ verdictLine (Refused why)
@@ -97,18 +96,15 @@ list-room (some s) {a} h = go (rulesIn s) refl
 
 -- words for the most nodes and for the longest pool are room for any tree
 pub tree-room :
-    (rs : List ℕ) (f : Option (List ℕ)) {a b : ℕ} → mostNodes * nodeWords ≤ a → mostPool ≤ b →
-    takeVerdict rs (treeOf f) a b ≡ servingVerdict rs (treeOf f)
-unfolding takeVerdict servingVerdict treeOf verdictOf roomFor
-tree-room rs f {a} {b} h k = ap (λ v. v then checkVerdict rs (nodesOf (treeOf f)) (poolOf (treeOf f))) (at f)
+    (f : Option (List ℕ)) {a b : ℕ} → mostNodes * nodeWords ≤ a → mostPool ≤ b →
+    verdictOf (treeOf f) a b ≡ ownVerdict (treeOf f)
+unfolding treeOf verdictOf roomFor
+tree-room none h k = refl
+tree-room (some s) {a} {b} h k = go (treeIn s) refl
   where
-    held : (s : List ℕ) (t : Reading Tree) → treeIn s ≡ t → verdictOf t a b ≡ ownVerdict t
-    held s (refused why) e = refl
-    held s (good (tree n ns es)) e =
+    go : (t : Reading Tree) → treeIn s ≡ t → verdictOf t a b ≡ ownVerdict t
+    go (refused why) e = refl
+    go (good (tree n ns es)) e =
         let fits = sizes-fine-iff ns es .0 (spelling-of-read s n ns es e .sizes) in
         then-fine _ (room-fine-iff (length ns) a .1 (omega (arith, fits .few-nodes))) ∙
         holds-fine _ (le-leb (length es) b (omega (arith, fits .short-pool)))
-
-    at : (f : Option (List ℕ)) → verdictOf (treeOf f) a b ≡ ownVerdict (treeOf f)
-    at none = refl
-    at (some s) = held s (treeIn s) refl

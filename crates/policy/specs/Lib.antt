@@ -2,4 +2,5 @@
 pub mod Files
 pub mod TakeList
 pub mod TakeTree
+pub mod WhoServes
 pub mod Output

@@ -23,9 +23,9 @@ use Rattle.tree_file.specs.ReadTree.{nodesOf, poolOf}
 use Rattle.console.specs.Lines.{refusedLine}
 use Rattle.console.specs.Replies.{answerTo}
 use Rattle.console.specs.Gathered.{inputReplies}
-use Rattle.policy.specs.declared.tree.Serving.{Serving}
+use Rattle.policy.specs.declared.serving.Serving.{Serving}
 use Rattle.policy.specs.Files.{listIn, treeOf}
-use Rattle.policy.specs.TakeTree.{serving}
+use Rattle.policy.specs.WhoServes.{serving}
 
 abbrev pub ownVerdict : {R : Type 0} → Reading R → Verdict
 ownVerdict (good r) = Fine

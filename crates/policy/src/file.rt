@@ -1,7 +1,6 @@
 // What a file gave.
-ghost use mathlib.Core.Path.{_≡_};
-ghost use lib.ListN.{length};
 ghost use Prim.Native.Nat.{min};
+ghost use mathlib.Core.Path.{_≡_};
 
 // It was not read to its end, or is too long; or so many bytes, which stand in front of a buffer.
 pub enum File {
@@ -9,13 +8,9 @@ pub enum File {
     Bytes { count: usize },
 }
 
-// The number of bytes of `buffer` that are among its first `count`.
-pub(crate) fn within(count: usize, buffer: &[u8]) -> usize
-    ensures { λ r. ⌜ r ≡ min count (length (now (buffer .entry))) ⌝ }
+// How many of the first `count` are there, of `most` in all.
+pub(crate) fn within(count: usize, most: usize) -> usize
+    ensures { λ r. ⌜ r ≡ min count most ⌝ }
 {
-    if count < buffer.len() {
-        count
-    } else {
-        buffer.len()
-    }
+    if count < most { count } else { most }
 }

@@ -21,7 +21,7 @@ pub fn take_list(file: File, buffer: &[u8], rules: &mut [u32]) -> Listed
     match file {
         File::NotRead => Listed::Refused(Refusal::FileNotRead),
         File::Bytes { count } => {
-            let n = within(count, buffer);
+            let n = within(count, buffer.len());
             list_of(&buffer[..n], rules)
         }
     }

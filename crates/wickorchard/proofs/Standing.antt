@@ -15,11 +15,13 @@ use Rattle.console.specs.declared.say.Replied.the-variants.{Refused, Written}
 use Rattle.console.specs.Lines.{Said}
 use Rattle.policy.specs.declared.list.Listed.{Listed}
 use Rattle.policy.specs.declared.list.Listed.the-variants.{Words}
-use Rattle.policy.specs.declared.tree.Serving.{Serving}
+use Rattle.policy.specs.declared.tree.Taken.{Taken}
+use Rattle.policy.specs.declared.serving.Serving.{Serving}
 use Rattle.policy.specs.TakeList.{ListTaken}
-use Rattle.policy.specs.TakeTree.{TreeTaken}
+use Rattle.policy.specs.WhoServes.{servingOf}
+use Rattle.policy.specs.Output.{answersBy}
 use Rattle.policy.proofs.Listing.{taken-list, list-good}
-use Rattle.policy.proofs.Serving.{taken-as-list}
+use Rattle.policy.proofs.Servers.{served-as-list, served-within}
 use Rattle.wickorchard.specs.Handed.{ListOfFile, AnswersAsList, InFront, ReplyInFront}
 
 -- bytes that were written in front stand there
@@ -49,9 +51,22 @@ pub list-handed :
 list-handed {f} {before} {after} t e =
     let w = taken-list (subst (λ (x : Listed). ListTaken f before x after) e t) in ((f, w .0), w .1)
 
--- whoever was left to serve answers as the list does
+-- whoever serves answers as the list does
 pub serving-handed :
-    {rs : List ℕ} {f : Option (List ℕ)} {nodes pool nodes′ pool′ : List ℕ} {r : Serving} → ListOfFile rs →
-    TreeTaken rs f nodes pool r nodes′ pool′ →
-    AnswersAsList rs (take (r .nodes) nodes′) (take (r .pool) pool′) (r .accepted)
-serving-handed l t = record { list = list-good (l .0) (l .1); answers = taken-as-list t }
+    (t : Taken) (rs nodes pool : List ℕ) {r : Serving} → ListOfFile rs → r ≡ servingOf t rs nodes pool →
+    AnswersAsList rs (take (r .nodes) nodes) (take (r .pool) pool) (r .accepted)
+serving-handed t rs nodes pool l e =
+    record {
+      list = list-good (l .0) (l .1);
+      answers =
+          λ h.
+          ap (λ (s : Serving). answersBy s rs nodes pool h) e ∙ served-as-list t rs nodes pool h;
+    }
+
+-- with words that are within the lent ones
+pub serving-fits :
+    (t : Taken) (rs nodes pool : List ℕ) {r : Serving} → r ≡ servingOf t rs nodes pool →
+    (r .nodes ≤ length nodes) × (r .pool ≤ length pool)
+serving-fits t rs nodes pool e =
+    subst (λ (s : Serving). (s .nodes ≤ length nodes) × (s .pool ≤ length pool)) (sym e)
+    (served-within t rs nodes pool)

@@ -11,6 +11,7 @@ use load::load;
 use out::say_verdict;
 use policy::list::Listed;
 use policy::list::take_list;
+use policy::serving::who_serves;
 use policy::tree::take_tree;
 use refusals::Verdict;
 use rules::words::MOST_RULES;
@@ -51,7 +52,8 @@ fn answer(buffer: &mut [u8], rules: &[u32])
     let mut nodes = [0u32; MOST_NODES * NODE_WORDS];
     let mut pool = [0u32; MOST_POOL];
     let file = load(&TREE_FILE, buffer);
-    let serving = take_tree(file, buffer, rules, &mut nodes, &mut pool);
+    let taken = take_tree(file, buffer, &mut nodes, &mut pool);
+    let serving = who_serves(taken, rules, &nodes, &pool);
     let refused = serving.refused;
     let accepted = serving.accepted;
     let n = serving.nodes;

@@ -2,8 +2,7 @@
 use mathlib.Core.Path.{sym}
 use lib.Seq.{length-take-le}
 use borrow.Author.Needs.{needs}
-use Rattle.policy.proofs.Serving.{taken-within}
-use Rattle.wickorchard.proofs.Standing.{serving-handed}
+use Rattle.wickorchard.proofs.Standing.{serving-handed, serving-fits}
 use Rattle.wickorchard.proofs.answer.Statement.{statement}
 use Rattle.wickorchard.proofs.answer.Tie as tie
 
@@ -22,30 +21,38 @@ slice-aggregate-take-tree-2 c = search needs
 take-tree-requires : tie.Need-take-tree-requires
 take-tree-requires c κs = search needs
 
+slice-aggregate-who-serves : tie.Need-slice-aggregate-who-serves
+slice-aggregate-who-serves c = search needs
+
+slice-aggregate-who-serves-2 : tie.Need-slice-aggregate-who-serves-2
+slice-aggregate-who-serves-2 c = search needs
+
+who-serves-requires : tie.Need-who-serves-requires
+who-serves-requires c κs = search needs
+
 say-verdict-requires : tie.Need-say-verdict-requires
 say-verdict-requires c κs = search needs
 
 array-share-prefix-nodes : tie.Need-array-share-prefix-nodes
-array-share-prefix-nodes c = taken-within (c .before .before .before .take-tree .ensures) .0
+array-share-prefix-nodes c = serving-fits _ _ _ _ (c .before .who-serves .ensures) .0
 
 slice-aggregate-serve : tie.Need-slice-aggregate-serve
-slice-aggregate-serve c =
-    let w = c .before .before .before .before in
-    sym (length-take-le _ _ (taken-within (w .take-tree .ensures) .0))
+slice-aggregate-serve c = sym (length-take-le _ _ (serving-fits _ _ _ _ (c .before .before .who-serves .ensures) .0))
 
 array-share-prefix-pool : tie.Need-array-share-prefix-pool
-array-share-prefix-pool c = taken-within (c .before .before .before .before .take-tree .ensures) .1
+array-share-prefix-pool c = serving-fits _ _ _ _ (c .before .before .who-serves .ensures) .1
 
 slice-aggregate-serve-2 : tie.Need-slice-aggregate-serve-2
 slice-aggregate-serve-2 c =
-    let w = c .before .before .before .before .before in
-    sym (length-take-le _ _ (taken-within (w .take-tree .ensures) .1))
+    let w = c .before .before .before in
+    sym (length-take-le _ _ (serving-fits _ _ _ _ (w .who-serves .ensures) .1))
 
 serve-requires : tie.Need-serve-requires
 serve-requires c κs =
-    let w = c .before .before .before .before .before in
-    let v = w .before .before .before .before .before .before .before .before .before .before .before in
-    serving-handed (v .pre .0) (w .take-tree .ensures)
+    let serving = c .before .before .before in
+    let taken = serving .before .before .before .before .before in
+    let start = taken .before .before .before .before .before .before .before .before .before .before .before in
+    serving-handed _ _ _ _ (start .pre .0) (serving .who-serves .ensures)
 
 same-length : tie.Need-same-length
 same-length c = search needs
@@ -62,6 +69,9 @@ answer-spec =
     slice-aggregate-take-tree
     slice-aggregate-take-tree-2
     take-tree-requires
+    slice-aggregate-who-serves
+    slice-aggregate-who-serves-2
+    who-serves-requires
     say-verdict-requires
     array-share-prefix-nodes
     slice-aggregate-serve

@@ -1,15 +1,12 @@
 -- `policy::tree::take_tree` meets its contract: the text is what stands in front of the buffer. Assumes nothing.
 use borrow.Author.Needs.{needs}
 use Rattle.policy.proofs.Bytes.{within-length, text-none, text-some}
-use Rattle.policy.proofs.Serving.{tree-not-read, tree-by}
+use Rattle.policy.proofs.Taking.{tree-not-read, tree-by}
 use Rattle.policy.proofs.tree.take_tree.Statement.{statement}
 use Rattle.policy.proofs.tree.take_tree.Tie as tie
 
 enum-told : tie.Need-enum-told
 enum-told c = search needs
-
-by-list-requires : tie.Need-by-list-requires
-by-list-requires c κs = search needs
 
 enum-known-file : tie.Need-enum-known-file
 enum-known-file c = search needs
@@ -25,9 +22,8 @@ tree-of-requires c κs = search needs
 
 returns : tie.Need-returns
 returns c =
-    let w = c .before .before .before .before .before .before .before in
-    tree-by (text-none (w .args .buffer .now) (c .before .enum-told .given .1))
-    (tree-not-read _ _ _ (c .by-list .ensures))
+    let w = c .before .before .before .before .before in
+    tree-by (text-none (w .args .buffer .now) (c .enum-told .given .1)) (tree-not-read _ _)
 
 same-length : tie.Need-same-length
 same-length c = search needs
@@ -40,7 +36,7 @@ returns-2 c =
     let w = c .before .before .before .before in
     let v = w .before .before .before .before in
     let u = v .before .before in
-    let t = u .before .before .before .before .before .before in
+    let t = u .before .before .before .before .before in
     tree-by (text-some (t .args .buffer .now) (u .file .given .1) (v .within .ensures)) (w .tree-of .ensures)
 
 pub take-tree-spec : {M : Type 1} → statement M
@@ -48,7 +44,6 @@ take-tree-spec =
     tie.close
     (tie.spec
     enum-told
-    by-list-requires
     enum-known-file
     within-requires
     slice-aggregate-tree-of

@@ -1,9 +1,9 @@
--- `policy::tree::checked` meets its contract: what the tree check says decides. Assumes nothing.
+-- `policy::serving::checked` meets its contract: what the tree check says decides. Assumes nothing.
 use mathlib.Core.Path.{_∙_}
 use borrow.Author.Needs.{needs}
-use Rattle.policy.proofs.Serving.{check-refused, check-accepted}
-use Rattle.policy.proofs.tree.checked.Statement.{statement}
-use Rattle.policy.proofs.tree.checked.Tie as tie
+use Rattle.policy.proofs.Servers.{check-refused, check-accepted}
+use Rattle.policy.proofs.serving.checked.Statement.{statement}
+use Rattle.policy.proofs.serving.checked.Tie as tie
 
 tree-check-requires : tie.Need-tree-check-requires
 tree-check-requires c κs = search needs

@@ -1,0 +1,101 @@
+-- The tree of the tree file is taken: what the reader of trees says, in words instead of nodes.
+use Prim.Native.Nat.{ℕ, _*_, _≤_}
+use native.Mathlib.Omega.{arith}
+use mathlib.Core.Path.{_≡_, refl, sym, ap, subst, _∙_}
+use mathlib.Core.List.{List, [], _∷_}
+use mathlib.Core.Option.{Option, none, some}
+use lib.ListN.{length}
+use borrow.Author.Tests.{leb-true}
+use Rattle.refusals.specs.declared.Refusal.{Refusal}
+use Rattle.refusals.specs.declared.Refusal.the-variants.{FileNotRead}
+use Rattle.refusals.specs.declared.Verdict.the-variants as verdict
+use Rattle.refusals.specs.Paper.{success}
+use Rattle.refusals.proofs.Order.{refused-not-fine, fine-iff-holds, then-fine-iff, room-fine-iff}
+use Rattle.refusals.proofs.Order.{giving-refused, giving-fine, leaving-refused}
+use Rattle.refusals.proofs.Giving.{success-giving, refusal-giving}
+use Rattle.trees.specs.Words.{nodeWords, nodeCount}
+use Rattle.trees.proofs.Sizes.{sizes-fine-iff}
+use Rattle.text.specs.Text.{Reading, good, refused}
+use Rattle.tree_file.specs.declared.read.Read.{Read}
+use Rattle.tree_file.specs.declared.read.Read.the-variants as read
+use Rattle.tree_file.specs.TreeText.{Tree, tree, treeIn}
+use Rattle.tree_file.specs.ReadTree.{roomFor, verdictOf, valuesOf, nodesOf, poolOf}
+use Rattle.tree_file.specs.ReadTree.{readVerdict, readTree, readNodes, readPool, TreeRead}
+use Rattle.tree_file.specs.ReadTree as reader
+use Rattle.tree_file.proofs.RoundTrips.{spelling-of-read}
+use Rattle.policy.specs.declared.tree.Taken.{Taken}
+use Rattle.policy.specs.declared.tree.Taken.the-variants.{Refused, Words}
+use Rattle.policy.specs.Files.{treeOf}
+use Rattle.policy.specs.TakeTree.{TreeTaken}
+
+-- ---- what the reader said
+
+module _ (s : List ℕ) (a b : ℕ) where
+  -- the nodes of a tree that was read are three words each, and they and the pool are within the rooms a and b
+  pub tree-sizes :
+      (t : Reading Tree) → treeIn s ≡ t → verdictOf t a b ≡ verdict.Fine → {k m p : ℕ} → k ∷ m ∷ p ∷ [] ≡ valuesOf t →
+      (m * nodeWords ≡ length (nodesOf t)) × (p ≡ length (poolOf t)) × (m * nodeWords ≤ a)
+  unfolding verdictOf roomFor
+  tree-sizes (refused why) q e z = refused-not-fine e
+  tree-sizes (good (tree n ns es)) q e {k} {m} {p} z =
+      let room = room-fine-iff (length ns) a .0 (then-fine-iff _ _ .0 e .0) in
+      let whole = sizes-fine-iff ns es .0 (spelling-of-read s n ns es q .sizes) .whole in
+      let count : m ≡ nodeCount ns = cc in
+      let total : p ≡ length es = cc in
+      (omega (arith, count, whole), total, omega (arith, count, room))
+
+module _ {s nodes pool nodes′ pool′ : List ℕ} {r : Read} (t : TreeRead s nodes pool r nodes′ pool′) where
+  -- its refusal
+  pub tree-refused :
+      {why : Refusal} → r ≡ read.Refused why → TreeTaken (some s) nodes pool (Refused why) nodes′ pool′
+  unfolding readTree readNodes readPool readVerdict treeOf
+  tree-refused {why} e =
+      let v = refusal-giving (verdictOf (treeIn s) (length nodes) (length pool)) _ {why = why}
+      (ap reader.paper (sym e) ∙ t .answers) in
+      record {
+        answers = sym (giving-refused {why = why} _ v);
+        leaves-nodes = t .leaves-nodes;
+        leaves-pool = t .leaves-pool;
+      }
+
+  module _ {k m p : ℕ} (e : r ≡ read.Tree k m p) where
+    says :
+        (verdictOf (treeIn s) (length nodes) (length pool) ≡ verdict.Fine) × (k ∷ m ∷ p ∷ [] ≡ valuesOf (treeIn s))
+    unfolding readTree readVerdict
+    says = success-giving _ _ (ap reader.paper (sym e) ∙ t .answers)
+
+    sizes :
+        (m * nodeWords ≡ length (nodesOf (treeIn s))) × (p ≡ length (poolOf (treeIn s))) ×
+        (m * nodeWords ≤ length nodes)
+    sizes = tree-sizes s (length nodes) (length pool) (treeIn s) refl (says .0) (says .1)
+
+    -- its nodes, three words each, and its pool
+    pub tree-found : TreeTaken (some s) nodes pool (Words (m * nodeWords) p) nodes′ pool′
+    unfolding readNodes readPool readVerdict treeOf
+    tree-found =
+        record {
+          answers = rw (sizes .0, sizes .1) (sym (giving-fine _ (says .0)));
+          leaves-nodes = t .leaves-nodes;
+          leaves-pool = t .leaves-pool;
+        }
+
+    -- the nodes are within the lent words
+    pub tree-within : m * nodeWords ≤ length nodes
+    tree-within = sizes .2
+
+-- a file that was not read
+pub tree-not-read : (nodes pool : List ℕ) → TreeTaken none nodes pool (Refused FileNotRead) nodes pool
+unfolding treeOf verdictOf
+tree-not-read nodes pool =
+    record {
+      answers = sym (giving-refused {why = FileNotRead} _ refl);
+      leaves-nodes = sym (leaving-refused {why = FileNotRead} _ nodes refl);
+      leaves-pool = sym (leaving-refused {why = FileNotRead} _ pool refl);
+    }
+
+-- what is taken of a file goes by its text alone
+pub tree-by :
+    {f g : Option (List ℕ)} {nodes pool nodes′ pool′ : List ℕ} {r : Taken} → g ≡ f →
+    TreeTaken g nodes pool r nodes′ pool′ → TreeTaken f nodes pool r nodes′ pool′
+tree-by {nodes = nodes} {pool = pool} {nodes′ = nodes′} {pool′ = pool′} {r = r} e t =
+    subst (λ (x : Option (List ℕ)). TreeTaken x nodes pool r nodes′ pool′) e t

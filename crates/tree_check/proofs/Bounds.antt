@@ -8,7 +8,7 @@ use mathlib.Core.List.{List, [], _∷_}
 use lib.ListN.{length}
 use Rattle.facts.specs.Lists.{rises}
 use Rattle.facts.proofs.Cases.{Split, atMost, over, split}
-use Rattle.trees.specs.Words.{leafMark, nodeCount, fieldOf, childOf, countOf, entries}
+use Rattle.trees.specs.Words.{leafMark, nodeCount, fieldOf, childOf, entries}
 use Rattle.tree_check.specs.declared.preorder.Lack.{Lack}
 use Rattle.tree_check.specs.Leads.{leftBox, rightBox, Leads, here, toLeft, toRight}
 use Rattle.tree_check.proofs.Built.{Built, ofLeaf, ofCut, built-forward}
@@ -17,7 +17,7 @@ use Rattle.tree_check.proofs.Ways.{Way, way-left, way-right}
 -- of a part from i to e with the figures c and l: leaf x past these cuts is one of its leaves, within both figures
 pub record Bounded (nodes pool : List ℕ) (i e c l : ℕ) (cuts : List ℕ) (x : ℕ) : Type 0 where
   pub cuts-most : length cuts ≤ c
-  pub entries-most : countOf nodes x ≤ l
+  pub entries-most : length (entries nodes pool x) ≤ l
   pub before : i + length cuts < e
   pub from : i ≤ x
   pub below : x < e
@@ -27,7 +27,7 @@ pub record Bounded (nodes pool : List ℕ) (i e c l : ℕ) (cuts : List ℕ) (x 
 
 at-leaf :
     {nodes pool : List ℕ} {i : ℕ} → i < nodeCount nodes → leafMark ≤ fieldOf nodes i →
-    rises 0 (entries nodes pool i) ≡ true → Bounded nodes pool i (i + 1) 0 (countOf nodes i) [] i
+    rises 0 (entries nodes pool i) ≡ true → Bounded nodes pool i (i + 1) 0 (length (entries nodes pool i)) [] i
 at-leaf a f r =
     record {
       cuts-most = omega arith;
@@ -88,13 +88,13 @@ module _ {rs nodes pool : List ℕ} where
   -- some way in a built part comes to a leaf with as many entries as its figure says
   pub longest :
       {k : ℕ} {b : List (List ℕ)} {i e c l : ℕ} {y : Lack} → Built rs nodes pool k b i e c l y →
-      (w : Way nodes b i) × (countOf nodes (w .at) ≡ l)
+      (w : Way nodes b i) × (length (entries nodes pool (w .at)) ≡ l)
   longest (ofLeaf a f r) = (record { cuts = []; at = _; box = _; leads = here f }, refl)
   longest (ofCut {b = b} {i = i} {l₁ = l₁} {l₂ = l₂} a d s r) = go (split l₂ l₁) (longest s) (longest r)
     where
       go :
-          Split l₂ l₁ → (w : Way nodes (leftBox nodes b i) (i + 1)) × (countOf nodes (w .at) ≡ l₁) →
-          (w : Way nodes (rightBox nodes b i) (childOf nodes i)) × (countOf nodes (w .at) ≡ l₂) →
-          (w : Way nodes b i) × (countOf nodes (w .at) ≡ max l₁ l₂)
+          Split l₂ l₁ → (w : Way nodes (leftBox nodes b i) (i + 1)) × (length (entries nodes pool (w .at)) ≡ l₁) →
+          (w : Way nodes (rightBox nodes b i) (childOf nodes i)) × (length (entries nodes pool (w .at)) ≡ l₂) →
+          (w : Way nodes b i) × (length (entries nodes pool (w .at)) ≡ max l₁ l₂)
       go (atMost o) p q = (way-left d (p .0), p .1 ∙ sym (max-eq-left o))
       go (over o) p q = (way-right d (q .0), q .1 ∙ sym (max-eq-right (le-of-lt o)))

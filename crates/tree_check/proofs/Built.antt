@@ -5,6 +5,7 @@ use mathlib.Core.Bool.{Bool, true, false}
 use mathlib.Core.Path.{_≡_, refl, subst}
 use mathlib.Core.Logic.{_⊎_, inl, inr}
 use mathlib.Core.List.{List}
+use lib.ListN.{length}
 use lib.Dec.{eqb}
 use borrow.Author.Tests.{eqb-true}
 use Rattle.facts.specs.Lists.{rises}
@@ -13,7 +14,7 @@ use Rattle.facts.proofs.Cases.{Split, atMost, over, split}
 use Rattle.refusals.specs.declared.Refusal.{Refusal}
 use Rattle.fields.specs.Cuts.{divides}
 use Rattle.fields.proofs.Cuts.{divides-iff}
-use Rattle.trees.specs.Words.{leafMark, nodeCount, fieldOf, valueOf, childOf, countOf, entries}
+use Rattle.trees.specs.Words.{leafMark, nodeCount, fieldOf, valueOf, childOf, entries}
 use Rattle.tree_check.specs.declared.preorder.Lack.{Lack}
 use Rattle.tree_check.specs.declared.preorder.Part.{Part}
 use Rattle.tree_check.specs.declared.preorder.Part.the-variants.{Refused, Good}
@@ -29,7 +30,7 @@ pub data Built (rs nodes pool : List ℕ) : ℕ → List (List ℕ) → ℕ → 
   ofLeaf :
       {k : ℕ} {b : List (List ℕ)} {i : ℕ} → i < nodeCount nodes → leafMark ≤ fieldOf nodes i →
       rises 0 (entries nodes pool i) ≡ true →
-      Built rs nodes pool k b i (i + 1) 0 (countOf nodes i) (lackOf rs nodes pool b i)
+      Built rs nodes pool k b i (i + 1) 0 (length (entries nodes pool i)) (lackOf rs (entries nodes pool i) b i)
   ofCut :
       {k : ℕ} {b : List (List ℕ)} {i e c₁ l₁ c₂ l₂ : ℕ} {y₁ y₂ : Lack} → i < nodeCount nodes → Divides nodes b i →
       Built rs nodes pool k (leftBox nodes b i) (i + 1) (childOf nodes i) c₁ l₁ y₁ →
@@ -44,12 +45,12 @@ module _ (rs nodes pool : List ℕ) where
 
   leaf-built :
       (k : ℕ) (b : List (List ℕ)) (i : ℕ) → i < nodeCount nodes → leafMark ≤ fieldOf nodes i →
-      BuiltSo k b i (leafPart rs nodes pool b i)
+      BuiltSo k b i (leafPart rs (entries nodes pool i) b i)
   leaf-built k b i a f = go (sure (rises 0 (entries nodes pool i)))
     where
       go :
           (rises 0 (entries nodes pool i) ≡ true) ⊎ (rises 0 (entries nodes pool i) ≡ false) →
-          BuiltSo k b i (leafPart rs nodes pool b i)
+          BuiltSo k b i (leafPart rs (entries nodes pool i) b i)
       go (inl t) = rw (leaf-rising rs nodes pool b i t) (ofLeaf a f t)
       go (inr t) = rw (leaf-not-rising rs nodes pool b i t) seven
 

@@ -1,10 +1,9 @@
 -- Where headers come to, in a tree whose root's part is built: each to one leaf, and it lies in that leaf's box.
 use Prim.Native.Nat.{ℕ}
-use native.Mathlib.Nat.{min-eq-left}
 use native.Mathlib.Omega.{arith}
-use mathlib.Core.Path.{_≡_, ap, _∙_}
+use mathlib.Core.Path.{_≡_, ap}
 use mathlib.Core.List.{List}
-use lib.ListN.{length, drop, length-take, length-drop}
+use lib.ListN.{length}
 use Rattle.fields.specs.Words.{fieldCount}
 use Rattle.fields.specs.Headers.{Legal}
 use Rattle.fields.specs.Boxes.{Inside, Full, rootBox}
@@ -12,7 +11,7 @@ use Rattle.fields.proofs.Boxes.{CommonPoint, overlap-iff, meets-iff-common-poin
 use Rattle.fields.proofs.Root.{root-pairs, root-full, legal-iff-in-root}
 use Rattle.rules.specs.Words.{ruleCount}
 use Rattle.rules.proofs.Lists.{GoodList}
-use Rattle.trees.specs.Words.{nodeCount, startOf, countOf, entries}
+use Rattle.trees.specs.Words.{nodeCount, entries}
 use Rattle.trees.specs.Spelt.{SpeltLeaf, Spelt}
 use Rattle.trees.specs.Walk.{Walk, came, walkOf, leafOf}
 use Rattle.trees.specs.Search.{leafList}
@@ -29,14 +28,6 @@ pub record Formed (rs nodes pool : List ℕ) (c l : ℕ) (y : Lack) : Type 0 whe
   pub good : GoodList rs
   pub spelt : Spelt (ruleCount rs) nodes pool
   pub root : Built rs nodes pool mostCuts rootBox 0 (nodeCount nodes) c l y
-
--- a leaf that is spelt has as many entries as it says
-pub entries-count :
-    {n : ℕ} {nodes pool : List ℕ} {i : ℕ} → SpeltLeaf n nodes pool i → length (entries nodes pool i) ≡ countOf nodes i
-unfolding entries
-entries-count {nodes = nodes} {pool = pool} {i = i} s =
-    length-take (countOf nodes i) (drop (startOf nodes i) pool) ∙
-    min-eq-left (omega (arith, length-drop (startOf nodes i) pool, s .within))
 
 -- a box that is not empty has a point
 pub point-of : (b : List (List ℕ)) → Full fieldCount b → CommonPoint fieldCount b b

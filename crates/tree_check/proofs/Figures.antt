@@ -8,23 +8,22 @@ use lib.ListN.{length}
 use Rattle.fields.specs.Words.{fieldCount}
 use Rattle.fields.specs.Headers.{Legal}
 use Rattle.fields.specs.Boxes.{Inside, rootBox}
-use Rattle.trees.specs.Words.{countOf}
+use Rattle.trees.specs.Words.{entries}
 use Rattle.trees.specs.Walk.{walkOf, visited}
 use Rattle.trees.specs.Search.{leafList, lookedAt}
 use Rattle.tree_check.specs.declared.preorder.Lack.{Lack}
 use Rattle.tree_check.specs.Leads.{Leads}
 use Rattle.tree_check.specs.Figures.{Figures}
 use Rattle.tree_check.proofs.Bounds.{deepest, longest}
-use Rattle.tree_check.proofs.Comes.{Formed, entries-count, point-of, finds, bounded, leaf-of, box-full, legal}
-use Rattle.tree_check.proofs.Comes.{comes, list-is}
+use Rattle.tree_check.proofs.Comes.{Formed, point-of, finds, bounded, box-full, legal, comes, list-is}
 
 module _ {rs nodes pool : List ℕ} {c l : ℕ} {y : Lack} (t : Formed rs nodes pool c l y) where
   module _ {cuts : List ℕ} {x : ℕ} {d : List (List ℕ)} (w : Leads nodes rootBox 0 cuts x d) where
     visits-at : (h : List ℕ) → Inside fieldCount d h → visited (walkOf nodes h) ≡ length cuts + 1
     visits-at h inside = ap visited (comes t w h inside)
 
-    entries-at : (h : List ℕ) → Inside fieldCount d h → length (leafList nodes pool h) ≡ countOf nodes x
-    entries-at h inside = ap length (list-is t w h inside) ∙ entries-count (leaf-of t w)
+    entries-at : (h : List ℕ) → Inside fieldCount d h → length (leafList nodes pool h) ≡ length (entries nodes pool x)
+    entries-at h inside = ap length (list-is t w h inside)
 
     -- a leaf's box has a legal header in it
     legal-point : (h : List ℕ) × Legal h × Inside fieldCount d h

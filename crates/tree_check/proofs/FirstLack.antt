@@ -4,7 +4,7 @@ use native.Mathlib.Omega.{arith}
 use mathlib.Core.Path.{_≡_, refl, subst, _∙_}
 use mathlib.Core.Logic.{_↔_}
 use mathlib.Core.List.{List, [], _∷_}
-use Rattle.trees.specs.Words.{leafMark, fieldOf, childOf}
+use Rattle.trees.specs.Words.{leafMark, fieldOf, childOf, entries}
 use Rattle.tree_check.specs.declared.preorder.Lack.{Lack}
 use Rattle.tree_check.specs.declared.preorder.Lack.the-variants.{Complete, Lacks}
 use Rattle.tree_check.specs.Preorder.{lackOf, earlier}
@@ -22,7 +22,7 @@ module _ {rs nodes pool : List ℕ} where
   -- where a built part has no lack, none of its leaves has
   pub complete-at :
       {k : ℕ} {b d : List (List ℕ)} {i e c l x : ℕ} {y : Lack} {cuts : List ℕ} → Built rs nodes pool k b i e c l y →
-      y ≡ Complete → Leads nodes b i cuts x d → lackOf rs nodes pool d x ≡ Complete
+      y ≡ Complete → Leads nodes b i cuts x d → lackOf rs (entries nodes pool x) d x ≡ Complete
   complete-at (ofLeaf a f r) q (here g) = q
   complete-at (ofLeaf a f r) q (toLeft d w) = absurd (omega (arith, d .field))
   complete-at (ofLeaf a f r) q (toRight d w) = absurd (omega (arith, d .field))
@@ -33,7 +33,8 @@ module _ {rs nodes pool : List ℕ} where
   -- where none of the leaves of a built part has a lack, the part has none
   pub complete-of-each :
       {k : ℕ} {b : List (List ℕ)} {i e c l : ℕ} {y : Lack} → Built rs nodes pool k b i e c l y →
-      ((cuts : List ℕ) (x : ℕ) (d : List (List ℕ)) → Leads nodes b i cuts x d → lackOf rs nodes pool d x ≡ Complete) →
+      ((cuts : List ℕ) (x : ℕ) (d : List (List ℕ)) → Leads nodes b i cuts x d →
+      lackOf rs (entries nodes pool x) d x ≡ Complete) →
       y ≡ Complete
   complete-of-each (ofLeaf {b = b} {i = i} a f r) q = q [] i b (here f)
   complete-of-each (ofCut {i = i} {y₁ = y} {y₂ = z} a d s r) q =
@@ -46,26 +47,26 @@ module _ {rs nodes pool : List ℕ} where
 abbrev pub NoneBelow : List ℕ → List ℕ → List ℕ → List (List ℕ) → ℕ → ℕ → Type 0
 NoneBelow rs nodes pool b i x =
     (passed : List ℕ) (z : ℕ) (d : List (List ℕ)) → Leads nodes b i passed z d → z < x →
-    lackOf rs nodes pool d z ≡ Complete
+    lackOf rs (entries nodes pool z) d z ≡ Complete
 
 -- leaf x of the part that begins at node i, its box being b, lacks rule r, and each lower leaf of it has no lack
 pub record FirstLack (rs nodes pool : List ℕ) (b : List (List ℕ)) (i x r : ℕ) : Type 0 where
   pub box : List (List ℕ)
   pub cuts : List ℕ
   pub way : Leads nodes b i cuts x box
-  pub lack : lackOf rs nodes pool box x ≡ Lacks x r
+  pub lack : lackOf rs (entries nodes pool x) box x ≡ Lacks x r
   pub lower : NoneBelow rs nodes pool b i x
 
 module _ {rs nodes pool : List ℕ} where
   leaf-first :
-      {b : List (List ℕ)} {i x r : ℕ} → leafMark ≤ fieldOf nodes i → i ≡ x → lackOf rs nodes pool b i ≡ Lacks x r →
-      FirstLack rs nodes pool b i x r
+      {b : List (List ℕ)} {i x r : ℕ} → leafMark ≤ fieldOf nodes i → i ≡ x →
+      lackOf rs (entries nodes pool i) b i ≡ Lacks x r → FirstLack rs nodes pool b i x r
   leaf-first {b} {i} {x} {r} f e q =
       record {
         box = b;
         cuts = [];
         way = subst (λ (z : ℕ). Leads nodes b i [] z b) e (here f);
-        lack = subst (λ (z : ℕ). lackOf rs nodes pool b z ≡ Lacks x r) e q;
+        lack = subst (λ (z : ℕ). lackOf rs (entries nodes pool z) b z ≡ Lacks x r) e q;
         lower = none;
       }
     where

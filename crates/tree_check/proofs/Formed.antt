@@ -4,10 +4,11 @@ use native.Mathlib.Omega.{arith}
 use mathlib.Core.Bool.{true}
 use mathlib.Core.Path.{_≡_, refl, _∙_}
 use mathlib.Core.List.{List}
+use lib.ListN.{length}
 use borrow.Author.Tests.{eq-eqb}
 use Rattle.facts.specs.Lists.{rises}
 use Rattle.fields.proofs.Cuts.{divides-iff}
-use Rattle.trees.specs.Words.{leafMark, nodeCount, fieldOf, valueOf, childOf, countOf, entries}
+use Rattle.trees.specs.Words.{leafMark, nodeCount, fieldOf, valueOf, childOf, entries}
 use Rattle.tree_check.specs.declared.preorder.Lack.{Lack}
 use Rattle.tree_check.specs.declared.preorder.Part.the-variants.{Good}
 use Rattle.tree_check.specs.Whole.{Whole, leaf, cut}
@@ -41,8 +42,8 @@ module _ (rs nodes pool : List ℕ) (k : ℕ) (b : List (List ℕ)) (i : ℕ) (t
   leaf-accepts f r =
       record {
         cuts = 0;
-        longest = countOf nodes i;
-        lack = lackOf rs nodes pool b i;
+        longest = length (entries nodes pool i);
+        lack = lackOf rs (entries nodes pool i) b i;
         says = part-leaf rs nodes pool b i there k f ∙ leaf-rising rs nodes pool b i r;
       }
 

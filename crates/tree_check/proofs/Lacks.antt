@@ -35,11 +35,11 @@ module _ (rs nodes pool : List ℕ) (d : List (List ℕ)) (x : ℕ) where
   abbrev low : ℕ
   low = lowestLacking rs (entries nodes pool x) d
 
-  lack-there : low < ruleCount rs → lackOf rs nodes pool d x ≡ Lacks x low
+  lack-there : low < ruleCount rs → lackOf rs (entries nodes pool x) d x ≡ Lacks x low
   unfolding lackOf
   lack-there l = rw (lt-ltb low (ruleCount rs) l)
 
-  lack-none : ruleCount rs ≤ low → lackOf rs nodes pool d x ≡ Complete
+  lack-none : ruleCount rs ≤ low → lackOf rs (entries nodes pool x) d x ≡ Complete
   unfolding lackOf
   lack-none l = rw (le-ltb low (ruleCount rs) l)
 
@@ -61,14 +61,14 @@ module _ (rs nodes pool : List ℕ) (d : List (List ℕ)) (x : ℕ) where
   not-lacking-iff r = unless-iff (meets fieldCount (ruleBox rs r) d) (has (entries nodes pool x) r)
 
   -- a leaf's lack is none exactly where it lists every rule whose box meets its own
-  pub complete-iff : (lackOf rs nodes pool d x ≡ Complete) ↔ LacksNone rs nodes pool d x
+  pub complete-iff : (lackOf rs (entries nodes pool x) d x ≡ Complete) ↔ LacksNone rs nodes pool d x
   complete-iff = (λ e. to e (split (ruleCount rs) low), of)
     where
-      to : lackOf rs nodes pool d x ≡ Complete → Split (ruleCount rs) low → LacksNone rs nodes pool d x
+      to : lackOf rs (entries nodes pool x) d x ≡ Complete → Split (ruleCount rs) low → LacksNone rs nodes pool d x
       to e (atMost l) r u = not-lacking-iff r .0 (low-none-iff .0 l r u)
       to e (over l) r u = lacks-not-complete (sym (lack-there l) ∙ e)
 
-      of : LacksNone rs nodes pool d x → lackOf rs nodes pool d x ≡ Complete
+      of : LacksNone rs nodes pool d x → lackOf rs (entries nodes pool x) d x ≡ Complete
       of f = lack-none (low-none-iff .1 (λ r l. not-lacking-iff r .1 (f r l)))
 
   -- r is the lowest rule that leaf x lacks, its box being d
@@ -94,7 +94,7 @@ module _ (rs nodes pool : List ℕ) (d : List (List ℕ)) (x : ℕ) where
       record { rule = l; meeting = hit .0; unlisted = hit .1; lower = λ q u. not-lacking-iff q .0 (t .1 q u) }
 
   -- a leaf's lack names the leaf, and the lowest rule that it lacks
-  pub lack-means : {i r : ℕ} → lackOf rs nodes pool d x ≡ Lacks i r → (x ≡ i) × LowestLack r
+  pub lack-means : {i r : ℕ} → lackOf rs (entries nodes pool x) d x ≡ Lacks i r → (x ≡ i) × LowestLack r
   lack-means {i} {r} e = go (split (ruleCount rs) low)
     where
       go : Split (ruleCount rs) low → (x ≡ i) × LowestLack r

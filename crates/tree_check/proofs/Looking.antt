@@ -13,7 +13,7 @@ use Rattle.fields.specs.Cuts.{divides, leftOf, rightOf}
 use Rattle.rules.specs.Words.{ruleCount}
 use Rattle.trees.specs.declared.words.Node.{Node}
 use Rattle.trees.specs.declared.words.Node.the-variants as node
-use Rattle.trees.specs.Words.{leafMark, nodeCount, fieldOf, valueOf, childOf, startOf, countOf}
+use Rattle.trees.specs.Words.{leafMark, nodeCount, fieldOf, valueOf, childOf, entries}
 use Rattle.trees.specs.Node.{nodeAt}
 use Rattle.trees.proofs.Nodes.{IsLeaf, IsCut, missing-means, leaf-is, cut-is}
 use Rattle.tree_check.specs.declared.preorder.Part.{Part}
@@ -60,7 +60,7 @@ module _ (rs nodes pool : List ℕ) (k : ℕ) (b : List (List ℕ)) (i : ℕ) wh
   -- a leaf that is looked at: these are its words, and the part is that leaf's
   pub record SeesLeaf (start count : ℕ) : Type 0 where
     pub is : IsLeaf nodes i start count
-    pub part : partOf k rs nodes pool b i ≡ leafPart rs nodes pool b i
+    pub part : partOf k rs nodes pool b i ≡ leafPart rs (entries nodes pool i) b i
 
   -- a cut that is looked at: these are its words, one more is allowed, its value divides the box, and the part goes on
   pub record SeesCut (field value child : ℕ) : Type 0 where

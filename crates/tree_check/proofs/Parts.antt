@@ -3,11 +3,12 @@ use Prim.Native.Nat.{ℕ, zero, suc, _+_, _≤_, _<_}
 use mathlib.Core.Bool.{true, false}
 use mathlib.Core.Path.{_≡_, _∙_}
 use mathlib.Core.List.{List}
+use lib.ListN.{length}
 use borrow.Author.Tests.{lt-ltb, le-ltb}
 use Rattle.facts.specs.Lists.{rises}
 use Rattle.refusals.specs.declared.Refusal.the-variants.{NodeWrong, LeafWrong}
 use Rattle.fields.specs.Cuts.{divides, leftOf, rightOf}
-use Rattle.trees.specs.Words.{leafMark, nodeCount, fieldOf, valueOf, childOf, countOf, entries}
+use Rattle.trees.specs.Words.{leafMark, nodeCount, fieldOf, valueOf, childOf, entries}
 use Rattle.tree_check.specs.declared.preorder.Part.the-variants.{Refused, Good}
 use Rattle.tree_check.specs.Preorder.{lackOf, leafPart, afterLeft, cutPart, nodePart, partOf}
 
@@ -21,18 +22,22 @@ module _ (rs nodes pool : List ℕ) (b : List (List ℕ)) (i : ℕ) where
   -- a leaf whose entries rise is a part of one node
   pub leaf-rising :
       rises 0 (entries nodes pool i) ≡ true →
-      leafPart rs nodes pool b i ≡ Good (i + 1) 0 (countOf nodes i) (lackOf rs nodes pool b i)
+      leafPart rs (entries nodes pool i) b i ≡
+      Good (i + 1) 0 (length (entries nodes pool i)) (lackOf rs (entries nodes pool i) b i)
   unfolding leafPart
   leaf-rising e = rw e
 
   -- a leaf whose entries do not rise is refused
-  pub leaf-not-rising : rises 0 (entries nodes pool i) ≡ false → leafPart rs nodes pool b i ≡ Refused (LeafWrong i)
+  pub leaf-not-rising :
+      rises 0 (entries nodes pool i) ≡ false → leafPart rs (entries nodes pool i) b i ≡ Refused (LeafWrong i)
   unfolding leafPart
   leaf-not-rising e = rw e
 
   module _ (there : i < nodeCount nodes) where
     -- a leaf is checked as a leaf, however many cuts are allowed
-    pub part-leaf : (k : ℕ) → leafMark ≤ fieldOf nodes i → partOf k rs nodes pool b i ≡ leafPart rs nodes pool b i
+    pub part-leaf :
+        (k : ℕ) → leafMark ≤ fieldOf nodes i →
+        partOf k rs nodes pool b i ≡ leafPart rs (entries nodes pool i) b i
     unfolding partOf nodePart
     part-leaf zero f = rw (lt-ltb i (nodeCount nodes) there, le-ltb (fieldOf nodes i) leafMark f)
     part-leaf (suc k) f = rw (lt-ltb i (nodeCount nodes) there, le-ltb (fieldOf nodes i) leafMark f)

@@ -1,6 +1,7 @@
 -- The preorder check: one recursion on the cuts still allowed. Definitions only.
---   lackOf rs nodes pool b i      the lowest rule whose box meets the box of leaf i, and which the leaf lacks; or none
---   leafPart rs nodes pool b i    leaf i: 7 where its entries do not rise
+--   lackOf rs l b i               the lowest rule whose box meets the box of leaf i, and which its entries l lack; or
+--                                 none
+--   leafPart rs l b i             leaf i with the entries l: 7 where they do not rise
 --   afterLeft at child left right     a cut after its left part: 6 at the cut for the right child's number, then its
 --                                     right part
 --   afterRight cuts longest lack right    both parts joined: the deeper, the longer, and the first lack
@@ -10,13 +11,14 @@
 use Prim.Native.Nat.{ℕ, zero, suc, _+_, max}
 use mathlib.Core.Bool.{Bool, true, false, cond}
 use mathlib.Core.List.{List}
+use lib.ListN.{length}
 use lib.Dec.{ltb, eqb}
 use Rattle.facts.specs.Lists.{rises}
 use Rattle.refusals.specs.declared.Refusal.the-variants.{NodeWrong, LeafWrong}
 use Rattle.fields.specs.Cuts.{divides, leftOf, rightOf}
 use Rattle.rules.specs.Words.{ruleCount}
 use Rattle.rules.specs.Lacking.{lowestLacking}
-use Rattle.trees.specs.Words.{leafMark, nodeCount, fieldOf, valueOf, childOf, countOf, entries}
+use Rattle.trees.specs.Words.{leafMark, nodeCount, fieldOf, valueOf, childOf, entries}
 use Rattle.tree_check.specs.declared.preorder.Lack.{Lack}
 use Rattle.tree_check.specs.declared.preorder.Lack.the-variants.{Complete, Lacks}
 use Rattle.tree_check.specs.declared.preorder.Part.{Part}
@@ -27,14 +29,11 @@ abbrev pub pick : Bool → (Unit {0} → Part) → (Unit {0} → Part) → Part
 pick true f g = f tt
 pick false f g = g tt
 
-unfoldable pub lackOf : List ℕ → List ℕ → List ℕ → List (List ℕ) → ℕ → Lack
-lackOf rs nodes pool b i =
-    let r = lowestLacking rs (entries nodes pool i) b in cond (ltb r (ruleCount rs)) (Lacks i r) Complete
+unfoldable pub lackOf : List ℕ → List ℕ → List (List ℕ) → ℕ → Lack
+lackOf rs l b i = let r = lowestLacking rs l b in cond (ltb r (ruleCount rs)) (Lacks i r) Complete
 
-unfoldable pub leafPart : List ℕ → List ℕ → List ℕ → List (List ℕ) → ℕ → Part
-leafPart rs nodes pool b i =
-    cond (rises 0 (entries nodes pool i)) (Good (i + 1) 0 (countOf nodes i) (lackOf rs nodes pool b i))
-    (Refused (LeafWrong i))
+unfoldable pub leafPart : List ℕ → List ℕ → List (List ℕ) → ℕ → Part
+leafPart rs l b i = cond (rises 0 l) (Good (i + 1) 0 (length l) (lackOf rs l b i)) (Refused (LeafWrong i))
 
 abbrev pub earlier : Lack → Lack → Lack
 earlier Complete other = other
@@ -59,7 +58,8 @@ cutPart nodes b i part =
 
 unfoldable pub nodePart : List ℕ → List ℕ → List ℕ → List (List ℕ) → ℕ → (Unit {0} → Part) → Part
 nodePart rs nodes pool b i cut =
-    pick (ltb i (nodeCount nodes)) (λ _. pick (ltb (fieldOf nodes i) leafMark) cut (λ _. leafPart rs nodes pool b i))
+    pick (ltb i (nodeCount nodes))
+    (λ _. pick (ltb (fieldOf nodes i) leafMark) cut (λ _. leafPart rs (entries nodes pool i) b i))
     (λ _. Refused (NodeWrong i))
 
 unfoldable pub partOf : ℕ → List ℕ → List ℕ → List ℕ → List (List ℕ) → ℕ → Part

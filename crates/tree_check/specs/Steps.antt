@@ -1,31 +1,23 @@
 -- What the steps of the preorder check answer, in the code's enums. Definitions only.
 --   lookAt nodes k b i       node i: wrong where it is missing, too deep or does not divide the box; a leaf; or a cut
---   lackAt node rule n       the lack of a leaf, rule being the lowest that it lacks of n
---   entriesPart rs l b i     leaf i with the entries l
 --   wordsVerdict             1, 2, then 5, then *spelt*
 --   Judged m p r             r says what the part p does of a tree of m nodes
 --   Shallow p                the cuts of a good part are few enough to count one more
-use Prim.Native.Nat.{ℕ, zero, _+_, _<_, _^_}
+use Prim.Native.Nat.{ℕ, zero, _<_, _^_}
 use mathlib.Core.Bool.{cond}
 use mathlib.Core.Path.{_≡_}
 use mathlib.Core.List.{List}
-use lib.ListN.{length}
-use lib.Dec.{ltb, eqb}
-use Rattle.facts.specs.Lists.{rises}
-use Rattle.refusals.specs.declared.Refusal.the-variants.{LeafWrong}
+use lib.Dec.{eqb}
 use Rattle.refusals.specs.declared.Verdict.{Verdict}
 use Rattle.refusals.specs.Order.{_then_, _giving_}
 use Rattle.fields.specs.Cuts.{divides}
 use Rattle.rules.specs.Words.{ruleCount}
 use Rattle.rules.specs.Good.{listVerdict}
-use Rattle.rules.specs.Lacking.{lowestLacking}
 use Rattle.trees.specs.declared.words.Node.{Node}
 use Rattle.trees.specs.declared.words.Node.the-variants as node
 use Rattle.trees.specs.Words.{sizeVerdict}
 use Rattle.trees.specs.Node.{nodeAt}
 use Rattle.trees.specs.Spelt.{speltVerdict}
-use Rattle.tree_check.specs.declared.preorder.Lack.{Lack}
-use Rattle.tree_check.specs.declared.preorder.Lack.the-variants.{Complete, Lacks}
 use Rattle.tree_check.specs.declared.preorder.Part.{Part}
 use Rattle.tree_check.specs.declared.preorder.Part.the-variants.{Refused, Good}
 use Rattle.tree_check.specs.declared.check.TreeAnswer.{TreeAnswer}
@@ -41,14 +33,6 @@ lookIn k b (node.Cut field value child) =
 
 unfoldable pub lookAt : List ℕ → ℕ → List (List ℕ) → ℕ → Look
 lookAt nodes k b i = lookIn k b (nodeAt nodes i)
-
-unfoldable pub lackAt : ℕ → ℕ → ℕ → Lack
-lackAt node rule n = cond (ltb rule n) (Lacks node rule) Complete
-
-unfoldable pub entriesPart : List ℕ → List ℕ → List (List ℕ) → ℕ → Part
-entriesPart rs l b i =
-    cond (rises 0 l) (Good (i + 1) 0 (length l) (lackAt i (lowestLacking rs l b) (ruleCount rs)))
-    (Refused (LeafWrong i))
 
 unfoldable pub Shallow : Part → Type 0
 Shallow (Refused why) = Unit {0}

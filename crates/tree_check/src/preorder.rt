@@ -15,8 +15,8 @@ ghost use Rattle.facts.specs.Lists.{rises};
 ghost use Rattle.rules.specs.Words.{ruleCount};
 ghost use Rattle.trees.specs.Spelt.{Spelt};
 ghost use Rattle.tree_check.specs.Whole.{mostCuts};
-ghost use Rattle.tree_check.specs.Preorder.{earlier, afterRight, partOf};
-ghost use Rattle.tree_check.specs.Steps.{lookAt, lackAt, entriesPart, Shallow};
+ghost use Rattle.tree_check.specs.Preorder.{lackOf, leafPart, earlier, afterRight, partOf};
+ghost use Rattle.tree_check.specs.Steps.{lookAt, Shallow};
 
 // The lowest rule that a leaf lacks; or it lacks none.
 pub enum Lack {
@@ -139,26 +139,26 @@ fn look_at(nodes: &[u32], at: usize, bounds: Bounds, cuts: usize) -> Look
 // A leaf with these entries: whether they rise, and the lowest rule that they lack.
 fn leaf_part(rules: &[u32], entries: &[u32], at: usize, bounds: Bounds) -> Part
     requires { ⌜ at < 2 ^ 63 ⌝ }
-    ensures { λ r. ⌜ r ≡ entriesPart (now (rules .entry)) (now (entries .entry)) bounds at ⌝ }
+    ensures { λ r. ⌜ r ≡ leafPart (now (rules .entry)) (now (entries .entry)) bounds at ⌝ }
 {
     if !rising(entries) {
         return Part::Refused(Refusal::LeafWrong { node: at });
     }
-    let lacked = lowest_lacking(rules, entries, bounds);
     Part::Good {
         next: at + 1,
         cuts: 0,
         longest: entries.len(),
-        lack: lack_at(at, lacked, rules.len() / RULE_WORDS),
+        lack: lack_of(rules, entries, at, bounds),
     }
 }
 
-// The lack of a leaf, `rule` being the lowest that it lacks of `count` rules.
-fn lack_at(node: usize, rule: usize, count: usize) -> Lack
-    ensures { λ r. ⌜ r ≡ lackAt node rule count ⌝ }
+// The lowest rule that the entries of leaf `at` lack in its box, or none.
+fn lack_of(rules: &[u32], entries: &[u32], at: usize, bounds: Bounds) -> Lack
+    ensures { λ r. ⌜ r ≡ lackOf (now (rules .entry)) (now (entries .entry)) bounds at ⌝ }
 {
-    if rule < count {
-        return Lack::Lacks { node, rule };
+    let rule = lowest_lacking(rules, entries, bounds);
+    if rule < rules.len() / RULE_WORDS {
+        return Lack::Lacks { node: at, rule };
     }
     Lack::Complete
 }

@@ -99,8 +99,7 @@ module _ (t : ℕ) where
 
   returns-3 : lts.Need-returns-3 (calls t) (given t) Post
   returns-3 c =
-      let s = c .before .before .before .before .before .before .before .before .before in
-      seen-part _ _ _ _ _ _ (s .pre .1 .0) (leaf-seen (c .before .before .before)) (c .leaf-part .ensures)
+      seen-part _ _ _ _ _ _ (leaf-seen (c .before .before .before)) (c .leaf-part .ensures)
 
   returns-4 : lts.Need-returns-4 (calls t) (given t) Post
   returns-4 c =

@@ -11,22 +11,18 @@ rising-requires c κs = search needs
 returns : tie.Need-returns
 returns c = entries-fall _ _ _ _ (c .before .rising .ensures) (c .if1 .taken)
 
-lowest-lacking-requires : tie.Need-lowest-lacking-requires
-lowest-lacking-requires c κs = search needs
+add-t8 : tie.Need-add-t8
+add-t8 c = omega arith
 
-add-t9 : tie.Need-add-t9
-add-t9 c = omega arith
-
-lack-at-requires : tie.Need-lack-at-requires
-lack-at-requires c κs = search needs
+lack-of-requires : tie.Need-lack-of-requires
+lack-of-requires c κs = search needs
 
 returns-2 : tie.Need-returns-2
 returns-2 c =
-    let w = c .before .before in
-    entries-rise _ _ _ _ (w .before .rising .ensures) (w .if1 .left) (c .lack-at .ensures)
-    (c .before .lowest-lacking .ensures)
+    let w = c .before in
+    entries-rise _ _ _ _ (w .before .rising .ensures) (w .if1 .left) (c .lack-of .ensures)
 
 pub leaf-part-spec : {M : Type 1} → statement M
 leaf-part-spec =
     tie.close
-    (tie.spec rising-requires returns lowest-lacking-requires add-t9 lack-at-requires returns-2)
+    (tie.spec rising-requires returns add-t8 lack-of-requires returns-2)

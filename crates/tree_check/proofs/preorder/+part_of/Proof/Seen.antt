@@ -60,7 +60,7 @@ module _ {t : ℕ} where
       c .start .given .0 .0 + c .start .given .0 .1 .0 ≤
       length (c .before .before .before .before .before .before .args .pool .now)
   leaf-within c =
-      seen-within _ _ _ _ _ _ (c .before .before .before .before .before .before .pre .1 .0) (leaf-seen c)
+      seen-within _ _ _ _ _ _ (leaf-seen c) (c .before .before .before .before .before .before .pre .1 .0)
 
   -- a cut is seen at the node
   pub cut-seen :

@@ -21,7 +21,7 @@ use Rattle.trees.specs.TreeAll.{treeAllVerdict, treeAll}
 use Rattle.trees.specs.TreeFirst.{treeFirst}
 use Rattle.trees.specs.Spelt.{leafCount, countsBelow, leafSpelt, nodeVerdict, speltVerdict}
 use Rattle.tree_check.specs.Preorder.{lackOf, leafPart, cutPart, nodePart, partOf}
-use Rattle.tree_check.specs.TreeCheck.{rootPart, checkVerdict, treeCheck}
+use Rattle.tree_check.specs.TreeCheck.{rootPart, wordsVerdict, checkVerdict, treeCheck}
 use Rattle.claims.specs.Worked.{AllHold, table}
 
 pub worked : AllHold table
@@ -30,7 +30,7 @@ unfolding allBelow lowest run keep has rises allUnder refuseUnless roomVerdict _
     rangeHolds rangesMeet good ruleVerdict listVerdict lacking lowestLacking matches matching ruleBox entries
     allVerdict lineAll lineFirst sizeVerdict sideOf stepOf walk walkOf leafVerdict treeVerdict leafList treeList
     lookedAt counting treeAllVerdict treeAll treeFirst leafCount countsBelow leafSpelt nodeVerdict speltVerdict
-    lackOf leafPart cutPart nodePart partOf rootPart checkVerdict treeCheck
+    lackOf leafPart cutPart nodePart partOf rootPart wordsVerdict checkVerdict treeCheck
 worked = (
   (refl, refl, refl, refl, refl, refl),
   (

@@ -1,16 +1,15 @@
 -- The tree check put together: the words first, and then the root's part.
 use Prim.Native.Nat.{ℕ}
-use mathlib.Core.Bool.{true, false}
 use mathlib.Core.Path.{_≡_, refl, sym, ap, _∙_}
+use mathlib.Core.Logic.{_↔_}
 use mathlib.Core.List.{List}
-use lib.Dec.{eqb}
 use borrow.Author.Tests.{eq-eqb, ne-eqb}
 use Rattle.refusals.specs.declared.Refusal.{Refusal}
 use Rattle.refusals.specs.declared.Refusal.the-variants.{NodeWrong, LeafLacksRule}
 use Rattle.refusals.specs.declared.Verdict.{Verdict}
 use Rattle.refusals.specs.declared.Verdict.the-variants as verdict
-use Rattle.refusals.specs.Order.{refuseUnless, _then_, _giving_}
-use Rattle.refusals.proofs.Order.{holds-fine, fails-refused, then-fine, then-refused, then-fine-iff, then-assoc}
+use Rattle.refusals.specs.Order.{_giving_}
+use Rattle.refusals.proofs.Order.{holds-fine, fails-refused, then-fine, then-refused, then-fine-iff}
 use Rattle.refusals.proofs.Order.{giving-refused, giving-fine}
 use Rattle.rules.specs.Words.{ruleCount}
 use Rattle.rules.specs.Good.{listVerdict}
@@ -23,9 +22,9 @@ use Rattle.tree_check.specs.declared.preorder.Part.{Part}
 use Rattle.tree_check.specs.declared.preorder.Part.the-variants as part
 use Rattle.tree_check.specs.declared.check.TreeAnswer.{TreeAnswer}
 use Rattle.tree_check.specs.declared.check.TreeAnswer.the-variants.{Refused, Accepted}
-use Rattle.tree_check.specs.TreeCheck.{paper, rootPart, lackVerdict, partVerdict, figures}
-use Rattle.tree_check.specs.TreeCheck.{checkVerdict, treeCheck, TreeChecked}
-use Rattle.tree_check.specs.Steps.{wordsVerdict, Judged}
+use Rattle.tree_check.specs.TreeCheck.{rootPart, lackVerdict, partVerdict, figures}
+use Rattle.tree_check.specs.TreeCheck.{wordsVerdict, checkVerdict, treeCheck, TreeChecked}
+use Rattle.tree_check.specs.Steps.{Judged}
 
 -- ---- the root's part
 
@@ -64,38 +63,38 @@ module _ (m : ℕ) (p : Part) {next cuts longest : ℕ} {lack : Lack} (e : p ≡
 -- ---- the whole check
 
 module _ (rs nodes pool : List ℕ) where
-  check-is :
-      checkVerdict rs nodes pool ≡
-      (wordsVerdict rs nodes pool then partVerdict (nodeCount nodes) (rootPart rs nodes pool))
-  unfolding checkVerdict wordsVerdict
-  check-is =
-      ap (λ (v : Verdict). listVerdict rs then v) (sym (then-assoc _ _ _)) ∙ sym (then-assoc _ _ _)
-
   -- words that are refused are the refusal
   pub words-refused :
       {why : Refusal} → wordsVerdict rs nodes pool ≡ verdict.Refused why → TreeChecked rs nodes pool (Refused why)
-  unfolding treeCheck
-  words-refused e = record { answers = sym (giving-refused _ (check-is ∙ then-refused _ e)) }
+  unfolding treeCheck checkVerdict
+  words-refused e = record { answers = sym (giving-refused _ (then-refused _ e)) }
 
-  module _ (e : wordsVerdict rs nodes pool ≡ verdict.Fine) where
-    -- words that are not refused are spelt
-    pub words-spelt : Spelt (ruleCount rs) nodes pool
-    unfolding wordsVerdict
-    words-spelt = spelt-fine-iff (ruleCount rs) nodes pool .0 (then-fine-iff _ _ .0 (then-fine-iff _ _ .0 e .1) .1)
-
-    -- then the root's part decides
-    pub part-decides :
-        {p : Part} {r : TreeAnswer} → p ≡ rootPart rs nodes pool → Judged (nodeCount nodes) p r →
-        TreeChecked rs nodes pool r
-    unfolding treeCheck
-    part-decides {p} {r} q j =
-        record {
-          answers =
-              j .says ∙ ap (λ (x : Part). partVerdict (nodeCount nodes) x giving figures x) q ∙
-              sym (ap (λ (v : Verdict). v giving figures (rootPart rs nodes pool)) (check-is ∙ then-fine _ e));
-        }
+  -- where they are not refused the root's part decides
+  pub part-decides :
+      wordsVerdict rs nodes pool ≡ verdict.Fine → {p : Part} {r : TreeAnswer} → p ≡ rootPart rs nodes pool →
+      Judged (nodeCount nodes) p r → TreeChecked rs nodes pool r
+  unfolding treeCheck checkVerdict
+  part-decides e q j =
+      record {
+        answers =
+            j .says ∙ ap (λ (x : Part). partVerdict (nodeCount nodes) x giving figures x) q ∙
+            sym (ap (λ (v : Verdict). v giving figures (rootPart rs nodes pool)) (then-fine _ e));
+      }
 
 -- ---- the words
+
+-- the words are fine exactly where the list is, the sizes are, and the tree is spelt
+pub words-fine-iff :
+    (rs nodes pool : List ℕ) → (wordsVerdict rs nodes pool ≡ verdict.Fine) ↔
+    ((listVerdict rs ≡ verdict.Fine) × (sizeVerdict nodes pool ≡ verdict.Fine) × Spelt (ruleCount rs) nodes pool)
+unfolding wordsVerdict
+words-fine-iff rs nodes pool = (
+  λ e.
+      let s = then-fine-iff _ _ .0 e in
+      let t = then-fine-iff _ _ .0 (s .1) in
+      (s .0, t .0, spelt-fine-iff (ruleCount rs) nodes pool .0 (t .1)),
+  λ h. then-fine-iff _ _ .1 (h .0, then-fine-iff _ _ .1 (h .1, spelt-fine-iff (ruleCount rs) nodes pool .1 (h .2))),
+)
 
 -- a list that is refused is the refusal
 pub list-refused :

@@ -19,7 +19,8 @@ use Rattle.tree_check.specs.declared.preorder.Part.{Part}
 use Rattle.tree_check.specs.declared.preorder.Part.the-variants as part
 use Rattle.tree_check.specs.declared.check.TreeAnswer.the-variants.{Refused}
 use Rattle.tree_check.specs.Whole.{mostCuts, WellFormed}
-use Rattle.tree_check.specs.TreeCheck.{rootPart, lackVerdict, partVerdict, checkVerdict, TreeChecked}
+use Rattle.tree_check.specs.TreeCheck.{rootPart, lackVerdict, partVerdict, wordsVerdict}
+use Rattle.tree_check.specs.TreeCheck.{checkVerdict, TreeChecked}
 use Rattle.tree_check.proofs.Only.{Only, fine, refused, only-wider, unless-only, then-only}
 use Rattle.tree_check.proofs.NotLack.{Malformed, six, seven, spelt-malformed}
 use Rattle.tree_check.proofs.Built.{part-malformed}
@@ -52,11 +53,12 @@ module _
     (rs nodes pool : List ℕ) (list : listVerdict rs ≡ verdict.Fine) (size : sizeVerdict nodes pool ≡ verdict.Fine) where
   -- the check then refuses with 6, 7 or 8 alone
   check-of-tree : Only OfTree (checkVerdict rs nodes pool)
-  unfolding checkVerdict rootPart
+  unfolding checkVerdict wordsVerdict rootPart
   check-of-tree =
-      subst (Only OfTree) (sym (then-fine _ list ∙ then-fine _ size))
-      (then-only (only-wider (λ why m. malformed m) (spelt-malformed (ruleCount rs) nodes pool))
-      (part-of-tree (nodeCount nodes) _ (part-malformed rs nodes pool mostCuts rootBox 0)))
+      then-only
+      (subst (Only OfTree) (sym (then-fine _ list ∙ then-fine _ size))
+      (only-wider (λ why m. malformed m) (spelt-malformed (ruleCount rs) nodes pool)))
+      (part-of-tree (nodeCount nodes) _ (part-malformed rs nodes pool mostCuts rootBox 0))
 
   -- a well-formed tree is not refused with 6 or 7
   not-refused :

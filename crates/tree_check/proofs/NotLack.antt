@@ -10,9 +10,11 @@ use Rattle.refusals.specs.declared.Refusal.the-variants.{LineWrong, TextStops, 
 use Rattle.refusals.specs.declared.Verdict.{Verdict}
 use Rattle.refusals.specs.declared.Verdict.the-variants.{Fine, Refused}
 use Rattle.refusals.specs.Order.{_then_}
+use Rattle.rules.specs.Words.{ruleCount}
 use Rattle.rules.specs.Good.{ruleVerdict, listVerdict}
 use Rattle.trees.specs.Words.{sizeVerdict}
 use Rattle.trees.specs.Spelt.{isCut, nodeVerdict, speltVerdict}
+use Rattle.tree_check.specs.TreeCheck.{wordsVerdict}
 use Rattle.tree_check.proofs.Only.{Only, fine, refused, only-wider}
 use Rattle.tree_check.proofs.Only.{unless-only, then-only, turns-only, cond-only}
 
@@ -58,14 +60,14 @@ then-last (refused n) l e = not-last n l e
 -- ---- the stages
 
 -- the rule check never says that a leaf lacks a rule
-pub list-no-lack : (rs : List ℕ) → Only NotLack (listVerdict rs)
+list-no-lack : (rs : List ℕ) → Only NotLack (listVerdict rs)
 unfolding listVerdict ruleVerdict
 list-no-lack rs =
     then-only (unless-only _ RuleWordsWrong tt)
     (then-only (unless-only _ RuleWordsWrong tt) (turns-only _ _ _ (λ r. unless-only _ (RuleNotGood r) tt)))
 
 -- nor do the sizes
-pub sizes-no-lack : (nodes pool : List ℕ) → Only NotLack (sizeVerdict nodes pool)
+sizes-no-lack : (nodes pool : List ℕ) → Only NotLack (sizeVerdict nodes pool)
 unfolding sizeVerdict
 sizes-no-lack nodes pool =
     then-only (unless-only _ TreeWordsWrong tt)
@@ -85,6 +87,10 @@ unfolding speltVerdict
 spelt-malformed n nodes pool =
     then-only (turns-only _ _ _ (node-malformed n nodes pool)) (unless-only _ (LeafWrong _) seven)
 
--- so it never says that a leaf lacks a rule
-pub spelt-no-lack : (n : ℕ) (nodes pool : List ℕ) → Only NotLack (speltVerdict n nodes pool)
-spelt-no-lack n nodes pool = only-wider not-lack-of-malformed (spelt-malformed n nodes pool)
+-- so the words never say that a leaf lacks a rule
+pub words-no-lack : (rs nodes pool : List ℕ) → Only NotLack (wordsVerdict rs nodes pool)
+unfolding wordsVerdict
+words-no-lack rs nodes pool =
+    then-only (list-no-lack rs)
+    (then-only (sizes-no-lack nodes pool)
+    (only-wider not-lack-of-malformed (spelt-malformed (ruleCount rs) nodes pool)))

@@ -16,7 +16,6 @@ use Rattle.rules.specs.Good.{listVerdict}
 use Rattle.rules.proofs.Lists.{fine-iff-good}
 use Rattle.trees.specs.Words.{nodeCount, sizeVerdict}
 use Rattle.trees.specs.Spelt.{Spelt}
-use Rattle.trees.proofs.Spelling.{spelt-fine-iff}
 use Rattle.tree_check.specs.declared.preorder.Lack.{Lack}
 use Rattle.tree_check.specs.declared.preorder.Part.{Part}
 use Rattle.tree_check.specs.declared.preorder.Part.the-variants.{Refused, Good}
@@ -24,7 +23,8 @@ use Rattle.tree_check.specs.Whole.{mostCuts, WellFormed}
 use Rattle.tree_check.specs.TreeCheck.{rootPart, lackVerdict, partVerdict, checkVerdict}
 use Rattle.tree_check.proofs.Only.{unless-only}
 use Rattle.tree_check.proofs.NotLack.{Malformed, not-lack-of-malformed, Last, not-last, then-last}
-use Rattle.tree_check.proofs.NotLack.{list-no-lack, sizes-no-lack, spelt-no-lack}
+use Rattle.tree_check.proofs.NotLack.{words-no-lack}
+use Rattle.tree_check.proofs.Checks.{words-fine-iff}
 use Rattle.tree_check.proofs.Built.{built, part-malformed}
 use Rattle.tree_check.proofs.Formed.{whole-of-built, accepts-of-whole}
 use Rattle.tree_check.proofs.Comes.{Formed}
@@ -52,22 +52,18 @@ module _ (rs nodes pool : List ℕ) where
       (c : ℕ) × (l : ℕ) × (y : Lack) × Reached rs nodes pool c l y × (lackVerdict y ≡ u)
   unfolding checkVerdict rootPart
   reached last e =
-      let n = ruleCount rs in
-      let s = then-last (list-no-lack rs) last e in
-      let t = then-last (sizes-no-lack nodes pool) last (s .1) in
-      let u = then-last (spelt-no-lack n nodes pool) last (t .1) in
+      let s = then-last (words-no-lack rs nodes pool) last e in
+      let words = words-fine-iff rs nodes pool .0 (s .0) in
       let whys = part-malformed rs nodes pool mostCuts rootBox 0 in
-      let v = part-last (nodeCount nodes) (rootPart rs nodes pool) whys last (u .1) in
-      let spelt = spelt-fine-iff n nodes pool .0 (u .0) in
-      (v .0, v .1, v .2, record { list = s .0; sizes = t .0; spelt = spelt; root = v .3 }, v .4)
+      let t = part-last (nodeCount nodes) (rootPart rs nodes pool) whys last (s .1) in
+      (t .0, t .1, t .2, record { list = words .0; sizes = words .1; spelt = words .2; root = t .3 }, t .4)
 
 module _ {rs nodes pool : List ℕ} {c l : ℕ} {y : Lack} (t : Reached rs nodes pool c l y) where
   -- where the check reaches the root's part, the part's lack decides
   pub lack-decides : checkVerdict rs nodes pool ≡ lackVerdict y
   unfolding checkVerdict
   lack-decides =
-      then-fine _ (t .list) ∙ then-fine _ (t .sizes) ∙
-      then-fine _ (spelt-fine-iff (ruleCount rs) nodes pool .1 (t .spelt)) ∙
+      then-fine _ (words-fine-iff rs nodes pool .1 (t .list, t .sizes, t .spelt)) ∙
       ap (partVerdict (nodeCount nodes)) (t .root) ∙
       then-fine _ (holds-fine _ (eq-eqb (nodeCount nodes) (nodeCount nodes) refl))
 

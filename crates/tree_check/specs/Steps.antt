@@ -1,6 +1,5 @@
 -- What the steps of the preorder check answer, in the code's enums. Definitions only.
 --   lookAt nodes k b i       node i: wrong where it is missing, too deep or does not divide the box; a leaf; or a cut
---   wordsVerdict             1, 2, then 5, then *spelt*
 --   Judged m p r             r says what the part p does of a tree of m nodes
 --   Shallow p                the cuts of a good part are few enough to count one more
 use Prim.Native.Nat.{ℕ, zero, _<_, _^_}
@@ -8,16 +7,11 @@ use mathlib.Core.Bool.{cond}
 use mathlib.Core.Path.{_≡_}
 use mathlib.Core.List.{List}
 use lib.Dec.{eqb}
-use Rattle.refusals.specs.declared.Verdict.{Verdict}
-use Rattle.refusals.specs.Order.{_then_, _giving_}
+use Rattle.refusals.specs.Order.{_giving_}
 use Rattle.fields.specs.Cuts.{divides}
-use Rattle.rules.specs.Words.{ruleCount}
-use Rattle.rules.specs.Good.{listVerdict}
 use Rattle.trees.specs.declared.words.Node.{Node}
 use Rattle.trees.specs.declared.words.Node.the-variants as node
-use Rattle.trees.specs.Words.{sizeVerdict}
 use Rattle.trees.specs.Node.{nodeAt}
-use Rattle.trees.specs.Spelt.{speltVerdict}
 use Rattle.tree_check.specs.declared.preorder.Part.{Part}
 use Rattle.tree_check.specs.declared.preorder.Part.the-variants.{Refused, Good}
 use Rattle.tree_check.specs.declared.check.TreeAnswer.{TreeAnswer}
@@ -37,9 +31,6 @@ lookAt nodes k b i = lookIn k b (nodeAt nodes i)
 unfoldable pub Shallow : Part → Type 0
 Shallow (Refused why) = Unit {0}
 Shallow (Good next cuts longest lack) = cuts < 2 ^ 63
-
-unfoldable pub wordsVerdict : List ℕ → List ℕ → List ℕ → Verdict
-wordsVerdict rs nodes pool = listVerdict rs then sizeVerdict nodes pool then speltVerdict (ruleCount rs) nodes pool
 
 pub record Judged (m : ℕ) (p : Part) (r : TreeAnswer) : Type 0 where
   pub says : paper r ≡ (partVerdict m p giving figures p)

@@ -2,7 +2,8 @@
 --   paper            an answer of the check, on paper: the most cuts above a leaf, and the longest leaf
 --   rootPart rs nodes pool    the root's part
 --   partVerdict m p  what the root's part says of a tree of m nodes: its refusal, 6 at the first node left over, then 8
---   checkVerdict     1, 2, then 5, then *spelt*, then the preorder walk, then 8
+--   wordsVerdict     1, 2, then 5, then *spelt*
+--   checkVerdict     those, then the preorder walk, then 8
 --   treeCheck        what the check says
 --   TreeChecked      the promise: the answer is as defined
 use Prim.Native.Nat.{ℕ, zero}
@@ -47,10 +48,12 @@ abbrev pub figures : Part → List ℕ
 figures (part.Refused why) = []
 figures (part.Good next cuts longest lack) = cuts ∷ longest ∷ []
 
+unfoldable pub wordsVerdict : List ℕ → List ℕ → List ℕ → Verdict
+wordsVerdict rs nodes pool = listVerdict rs then sizeVerdict nodes pool then speltVerdict (ruleCount rs) nodes pool
+
 unfoldable pub checkVerdict : List ℕ → List ℕ → List ℕ → Verdict
 checkVerdict rs nodes pool =
-    listVerdict rs then sizeVerdict nodes pool then speltVerdict (ruleCount rs) nodes pool then
-    partVerdict (nodeCount nodes) (rootPart rs nodes pool)
+    wordsVerdict rs nodes pool then partVerdict (nodeCount nodes) (rootPart rs nodes pool)
 
 unfoldable pub treeCheck : List ℕ → List ℕ → List ℕ → Paper
 treeCheck rs nodes pool = checkVerdict rs nodes pool giving figures (rootPart rs nodes pool)

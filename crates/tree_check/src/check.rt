@@ -11,8 +11,8 @@ use trees::spelt::size_verdict;
 use trees::spelt::spelt_verdict;
 use trees::words::NODE_WORDS;
 ghost use mathlib.Core.Path.{_≡_};
-ghost use Rattle.tree_check.specs.TreeCheck.{TreeChecked};
-ghost use Rattle.tree_check.specs.Steps.{wordsVerdict, Judged};
+ghost use Rattle.tree_check.specs.TreeCheck.{wordsVerdict, TreeChecked};
+ghost use Rattle.tree_check.specs.Steps.{Judged};
 
 // The most cuts above a leaf.
 pub const MOST_CUTS: usize = 63;

@@ -8,7 +8,7 @@ use borrow.Author.Needs.{needs}
 use Rattle.tree_check.specs.Whole.{mostCuts}
 use Rattle.tree_check.specs.Preorder.{partOf}
 use Rattle.tree_check.specs.TreeCheck.{rootPart}
-use Rattle.tree_check.proofs.Checks.{words-refused, words-spelt, part-decides}
+use Rattle.tree_check.proofs.Checks.{words-refused, words-fine-iff, part-decides}
 use Rattle.tree_check.proofs.check.tree_check.Statement.{statement}
 use Rattle.tree_check.proofs.check.tree_check.Tie as tie
 
@@ -27,7 +27,7 @@ root-box-requires c κs = search needs
 part-of-requires : tie.Need-part-of-requires
 part-of-requires c κs =
     let w = c .before in
-    (words-spelt _ _ _ (sym (w .before .before .words-verdict .ensures) ∙ w .enum-told .given .1), omega arith)
+    (words-fine-iff _ _ _ .0 (sym (w .before .before .words-verdict .ensures) ∙ w .enum-told .given .1) .2, omega arith)
 
 judged-requires : tie.Need-judged-requires
 judged-requires c κs = search needs

@@ -10,7 +10,7 @@ use Rattle.tree_check.specs.declared.preorder.Lack.the-variants.{Complet
 use Rattle.tree_check.specs.TreeCheck.{lackVerdict, checkVerdict}
 use Rattle.tree_check.specs.Serves.{Serves}
 use Rattle.tree_check.proofs.Agreement.{agrees-of-complete, complete-of-agrees}
-use Rattle.tree_check.proofs.Stages.{Reached, reached, lack-decides, formed, well-formed, reaches}
+use Rattle.tree_check.proofs.Stages.{Reached, reached, lack-decides, formed, proper, reaches}
 
 lack-fine : (y : Lack) → lackVerdict y ≡ Fine → y ≡ Complete
 lack-fine Complete e = refl
@@ -32,10 +32,9 @@ module _ (rs nodes pool : List ℕ) where
       to : checkVerdict rs nodes pool ≡ Fine → Serves rs nodes pool
       to e =
           let t = accepted e .2 in
-          let agrees = agrees-of-complete (formed t) refl in
-          record { list = t .list; sizes = t .sizes; formed = well-formed t; agrees = agrees }
+          record { proper = proper t; agrees = agrees-of-complete (formed t) refl }
 
       of : Serves rs nodes pool → checkVerdict rs nodes pool ≡ Fine
       of s =
-          let t = reaches rs nodes pool (s .list) (s .sizes) (s .formed) in
+          let t = reaches (s .proper) in
           lack-decides (t .3) ∙ ap lackVerdict (complete-of-agrees (formed (t .3)) (s .agrees))

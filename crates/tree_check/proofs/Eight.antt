@@ -8,21 +8,16 @@ use mathlib.Core.List.{List}
 use Rattle.facts.proofs.Bools.{clash}
 use Rattle.facts.proofs.Cases.{same}
 use Rattle.refusals.specs.declared.Refusal.the-variants.{LeafLacksRule}
-use Rattle.refusals.specs.declared.Verdict.the-variants.{Fine, Refused}
-use Rattle.fields.specs.Boxes.{rootBox}
-use Rattle.rules.specs.Words.{ruleCount}
-use Rattle.rules.specs.Good.{listVerdict}
-use Rattle.trees.specs.Words.{sizeVerdict}
+use Rattle.refusals.specs.declared.Verdict.the-variants.{Refused}
 use Rattle.tree_check.specs.declared.preorder.Lack.{Lack}
 use Rattle.tree_check.specs.declared.preorder.Lack.the-variants.{Complete, Lacks}
-use Rattle.tree_check.specs.Whole.{WellFormed}
 use Rattle.tree_check.specs.TreeCheck.{lackVerdict, checkVerdict}
 use Rattle.tree_check.specs.Lacks.{LacksFirst, LacksRule, Misleads}
 use Rattle.tree_check.proofs.Lacks.{complete-iff, LowestLack, lack-means}
 use Rattle.tree_check.proofs.FirstLack.{FirstLack, first-lack, complete-at}
 use Rattle.tree_check.proofs.OneLack.{lacks-first-unique}
 use Rattle.tree_check.proofs.Agreement.{witness, listed-of-right, agrees-of-complete}
-use Rattle.tree_check.proofs.Stages.{Reached, reached, lack-decides, formed, well-formed, reaches}
+use Rattle.tree_check.proofs.Stages.{Reached, reached, lack-decides, formed, proper, reaches}
 
 lack-eight : (y : Lack) {i r : ℕ} → lackVerdict y ≡ Refused (LeafLacksRule i r) → y ≡ Lacks i r
 lack-eight Complete e = let z : _≡_ {A = ℕ} 0 1 = cc in absurd (omega arith)
@@ -60,9 +55,7 @@ module _ {rs nodes pool : List ℕ} {c l i r : ℕ} (t : Reached rs nodes pool c
       let f = lacks-first in
       let p = witness (formed t) (f .way) r (f .rule) (f .meeting) in
       record {
-        list = t .list;
-        sizes = t .sizes;
-        formed = well-formed t;
+        proper = proper t;
         header = p .0;
         legal = p .1;
         wrong = λ e. clash (listed-of-right (formed t) (f .way) (p .0) (p .2) e r (f .rule) (p .3)) (f .unlisted);
@@ -79,7 +72,7 @@ module _ (rs nodes pool : List ℕ) where
       of m = go (t .2) refl
         where
           t : (c : ℕ) × (l : ℕ) × (y : Lack) × Reached rs nodes pool c l y
-          t = reaches rs nodes pool (m .list) (m .sizes) (m .formed)
+          t = reaches (m .proper)
 
           go : (y : Lack) → t .2 ≡ y → (i : ℕ) × (r : ℕ) × (checkVerdict rs nodes pool ≡ Refused (LeafLacksRule i r))
           go Complete e = absurd (m .wrong (agrees-of-complete (formed (t .3)) e (m .header) (m .legal)))
@@ -103,9 +96,7 @@ module _ (rs nodes pool : List ℕ) where
   eight-at-iff i r = (to, of)
     where
       to : checkVerdict rs nodes pool ≡ Refused (LeafLacksRule i r) → LacksRule rs nodes pool i r
-      to e =
-          let t = eight-reached rs nodes pool e .2 in
-          record { list = t .list; sizes = t .sizes; formed = well-formed t; lacks = lacks-first t }
+      to e = let t = eight-reached rs nodes pool e .2 in record { proper = proper t; lacks = lacks-first t }
 
       of : LacksRule rs nodes pool i r → checkVerdict rs nodes pool ≡ Refused (LeafLacksRule i r)
-      of m = let t = reaches rs nodes pool (m .list) (m .sizes) (m .formed) in eight-at (t .2) (t .3) (m .lacks)
+      of m = let t = reaches (m .proper) in eight-at (t .2) (t .3) (m .lacks)

@@ -24,7 +24,7 @@ use Rattle.tree_check.specs.TreeCheck.{checkVerdict, TreeChecked}
 use Rattle.tree_check.proofs.Only.{Only, fine, refused, only-wider, unless-only, then-only}
 use Rattle.tree_check.proofs.NotLack.{Malformed, six, seven, spelt-malformed}
 use Rattle.tree_check.proofs.Built.{part-malformed}
-use Rattle.tree_check.proofs.Stages.{lack-decides, well-formed, reaches}
+use Rattle.tree_check.proofs.Stages.{lack-decides, proper, reaches}
 use Rattle.tree_check.proofs.Accepts.{accepted}
 use Rattle.tree_check.proofs.Eight.{eight-iff}
 use Rattle.tree_check.proofs.Answers.{refused-iff}
@@ -65,17 +65,18 @@ module _
       {why : Refusal} → Malformed why → TreeChecked rs nodes pool (Refused why) →
       WellFormed (ruleCount rs) nodes pool → ⊥
   not-refused m p w =
-      let t = reaches rs nodes pool list size w in
+      let t = reaches (record { list = list; sizes = size; formed = w }) in
       not-of-lack (t .2) m (sym (lack-decides (t .3)) ∙ refused-iff .0 p)
 
   -- a tree that is not well formed is refused with 6 or 7
   refuses-malformed :
       (WellFormed (ruleCount rs) nodes pool → ⊥) → {v : Verdict} → checkVerdict rs nodes pool ≡ v → Only OfTree v →
       (i : ℕ) × (TreeChecked rs nodes pool (Refused (NodeWrong i)) ⊎ TreeChecked rs nodes pool (Refused (LeafWrong i)))
-  refuses-malformed bad e fine = absurd (bad (well-formed (accepted rs nodes pool e .2)))
+  refuses-malformed bad e fine = absurd (bad (proper (accepted rs nodes pool e .2) .formed))
   refuses-malformed bad e (refused (malformed (six {i}))) = (i, inl (refused-iff .1 e))
   refuses-malformed bad e (refused (malformed (seven {i}))) = (i, inr (refused-iff .1 e))
-  refuses-malformed bad e (refused (lacks {i} {r})) = absurd (bad (eight-iff rs nodes pool .0 (i, r, e) .formed))
+  refuses-malformed bad e (refused (lacks {i} {r})) =
+      absurd (bad (eight-iff rs nodes pool .0 (i, r, e) .proper .formed))
 
   -- the check refuses with 6 or 7 exactly where the tree is not well formed
   pub malformed-iff :

@@ -19,7 +19,7 @@ use Rattle.trees.specs.Spelt.{Spelt}
 use Rattle.tree_check.specs.declared.preorder.Lack.{Lack}
 use Rattle.tree_check.specs.declared.preorder.Part.{Part}
 use Rattle.tree_check.specs.declared.preorder.Part.the-variants.{Refused, Good}
-use Rattle.tree_check.specs.Whole.{mostCuts, WellFormed}
+use Rattle.tree_check.specs.Whole.{mostCuts, Proper}
 use Rattle.tree_check.specs.TreeCheck.{rootPart, lackVerdict, partVerdict, checkVerdict}
 use Rattle.tree_check.proofs.Only.{unless-only}
 use Rattle.tree_check.proofs.NotLack.{Malformed, not-lack-of-malformed, Last, not-last, then-last}
@@ -72,15 +72,20 @@ module _ {rs nodes pool : List ℕ} {c l : ℕ} {y : Lack} (t : Reached rs nodes
   unfolding rootPart
   formed = record { good = fine-iff-good rs .0 (t .list); spelt = t .spelt; root = built rs nodes pool (t .root) }
 
-  -- and the tree is well formed
-  pub well-formed : WellFormed (ruleCount rs) nodes pool
-  well-formed = record { spelt = t .spelt; preorder = whole-of-built (t .spelt .first) (formed .root) }
+  -- the list and the sizes are fine, and the tree is well formed
+  pub proper : Proper rs nodes pool
+  proper =
+      record {
+        list = t .list;
+        sizes = t .sizes;
+        formed = record { spelt = t .spelt; preorder = whole-of-built (t .spelt .first) (formed .root) };
+      }
 
--- a well-formed tree, its sizes and its list being fine, has its root's part reached
+-- where they are, the root's part is reached
 pub reaches :
-    (rs nodes pool : List ℕ) → listVerdict rs ≡ verdict.Fine → sizeVerdict nodes pool ≡ verdict.Fine →
-    WellFormed (ruleCount rs) nodes pool → (c : ℕ) × (l : ℕ) × (y : Lack) × Reached rs nodes pool c l y
+    {rs nodes pool : List ℕ} → Proper rs nodes pool → (c : ℕ) × (l : ℕ) × (y : Lack) × Reached rs nodes pool c l y
 unfolding rootPart
-reaches rs nodes pool list sizes w =
+reaches {rs} p =
+    let w = p .formed in
     let a = accepts-of-whole rs (w .preorder) in
-    (a .cuts, a .longest, a .lack, record { list = list; sizes = sizes; spelt = w .spelt; root = a .says })
+    (a .cuts, a .longest, a .lack, record { list = p .list; sizes = p .sizes; spelt = w .spelt; root = a .says })

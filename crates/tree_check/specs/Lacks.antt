@@ -3,25 +3,23 @@
 --   LacksFirst rs nodes pool i r    i is the lowest leaf that lacks a rule, and r the lowest rule that it lacks: the
 --                                   box of r meets the leaf's, `box`, and r is not listed; each lower rule that meets
 --                                   it is listed, and each lower leaf lacks none
---   LacksRule rs nodes pool i r     the list is good, the sizes hold, the tree is well formed, and i and r are so
---   Misleads rs nodes pool          the list is good, the sizes hold, the tree is well formed, and `header` is legal
---                                   and gets from the tree another list than from the rules
+--   LacksRule rs nodes pool i r     `Proper`, and i and r are so
+--   Misleads rs nodes pool          `Proper`, and `header` is legal and gets from the tree another list than from the
+--                                   rules
 use Prim.Native.Nat.{ℕ, _<_}
 use mathlib.Core.Bool.{true, false}
 use mathlib.Core.Path.{_≡_}
 use mathlib.Core.Logic.{_≢_}
 use mathlib.Core.List.{List}
 use Rattle.facts.specs.Lists.{has}
-use Rattle.refusals.specs.declared.Verdict.the-variants.{Fine}
 use Rattle.fields.specs.Words.{fieldCount}
 use Rattle.fields.specs.Headers.{Legal}
 use Rattle.fields.specs.Boxes.{meets, rootBox}
 use Rattle.rules.specs.Words.{ruleCount}
-use Rattle.rules.specs.Good.{listVerdict}
 use Rattle.rules.specs.Matching.{matching, ruleBox}
-use Rattle.trees.specs.Words.{entries, sizeVerdict}
+use Rattle.trees.specs.Words.{entries}
 use Rattle.trees.specs.Search.{treeList}
-use Rattle.tree_check.specs.Whole.{WellFormed}
+use Rattle.tree_check.specs.Whole.{Proper}
 use Rattle.tree_check.specs.Leads.{Leads}
 
 abbrev pub LacksNone : List ℕ → List ℕ → List ℕ → List (List ℕ) → ℕ → Type 0
@@ -41,15 +39,11 @@ pub record LacksFirst (rs nodes pool : List ℕ) (i r : ℕ) : Type 0 where
       LacksNone rs nodes pool d x
 
 pub record LacksRule (rs nodes pool : List ℕ) (i r : ℕ) : Type 0 where
-  pub list : listVerdict rs ≡ Fine
-  pub sizes : sizeVerdict nodes pool ≡ Fine
-  pub formed : WellFormed (ruleCount rs) nodes pool
+  pub proper : Proper rs nodes pool
   pub lacks : LacksFirst rs nodes pool i r
 
 pub record Misleads (rs nodes pool : List ℕ) : Type 0 where
-  pub list : listVerdict rs ≡ Fine
-  pub sizes : sizeVerdict nodes pool ≡ Fine
-  pub formed : WellFormed (ruleCount rs) nodes pool
+  pub proper : Proper rs nodes pool
   pub header : List ℕ
   pub legal : Legal header
   pub wrong : treeList rs nodes pool header ≢ matching rs header

@@ -3,14 +3,18 @@
 --   Whole nodes pool k b i e     the nodes from i up to e are one part in preorder: i's whole part, for box b, with at
 --                                most k cuts above any of its leaves
 --   WellFormed n nodes pool      spelt, there being n rules, and the root's part ends at the last node
+--   Proper rs nodes pool         the list is good, the sizes hold, and the tree is well formed
 use Prim.Native.Nat.{ℕ, zero, suc, _+_, _≤_, _<_}
 use mathlib.Core.Bool.{true}
 use mathlib.Core.Path.{_≡_}
 use mathlib.Core.List.{List}
 use Rattle.facts.specs.Lists.{rises}
+use Rattle.refusals.specs.declared.Verdict.the-variants.{Fine}
 use Rattle.fields.specs.Boxes.{lowOf, highOf, rootBox}
 use Rattle.fields.specs.Cuts.{leftOf, rightOf}
-use Rattle.trees.specs.Words.{leafMark, nodeCount, fieldOf, valueOf, childOf, entries}
+use Rattle.rules.specs.Words.{ruleCount}
+use Rattle.rules.specs.Good.{listVerdict}
+use Rattle.trees.specs.Words.{leafMark, nodeCount, fieldOf, valueOf, childOf, entries, sizeVerdict}
 use Rattle.trees.specs.Spelt.{Spelt}
 
 abbrev pub mostCuts : ℕ
@@ -31,3 +35,8 @@ pub data Whole (nodes pool : List ℕ) : ℕ → List (List ℕ) → ℕ → ℕ
 pub record WellFormed (n : ℕ) (nodes pool : List ℕ) : Type 0 where
   pub spelt : Spelt n nodes pool
   pub preorder : Whole nodes pool mostCuts rootBox 0 (nodeCount nodes)
+
+pub record Proper (rs nodes pool : List ℕ) : Type 0 where
+  pub list : listVerdict rs ≡ Fine
+  pub sizes : sizeVerdict nodes pool ≡ Fine
+  pub formed : WellFormed (ruleCount rs) nodes pool

@@ -28,7 +28,7 @@ eight-reached :
     (rs nodes pool : List ℕ) {i r : ℕ} → checkVerdict rs nodes pool ≡ Refused (LeafLacksRule i r) →
     (c : ℕ) × (l : ℕ) × Reached rs nodes pool c l (Lacks i r)
 eight-reached rs nodes pool e =
-    let t = reached rs nodes pool (λ n. n) e in
+    let t = reached rs nodes pool refl e in
     let lack = lack-eight (t .2) (t .4) in
     (t .0, t .1, rw lack at (t .3))
 

@@ -1,14 +1,15 @@
 -- Which refusals the stages of the check give: none before the last gives 8, so that 8 and acceptance come of the last
 -- alone; and *spelt* gives 6 or 7.
 use Prim.Native.Nat.{ℕ}
+use native.Mathlib.Omega.{arith}
 use mathlib.Core.Path.{_≡_, refl, subst}
 use mathlib.Core.List.{List}
 use Rattle.refusals.specs.declared.Refusal.{Refusal}
-use Rattle.refusals.specs.declared.Refusal.the-variants.{RuleWordsWrong, RuleNotGood, HeaderWrong, OutputShort}
-use Rattle.refusals.specs.declared.Refusal.the-variants.{TreeWordsWrong, NodeWrong, LeafWrong, LeafLacksRule}
-use Rattle.refusals.specs.declared.Refusal.the-variants.{LineWrong, TextStops, FileNotRead}
+use Rattle.refusals.specs.declared.Refusal.the-variants.{RuleWordsWrong, RuleNotGood}
+use Rattle.refusals.specs.declared.Refusal.the-variants.{TreeWordsWrong, NodeWrong, LeafWrong}
 use Rattle.refusals.specs.declared.Verdict.{Verdict}
 use Rattle.refusals.specs.declared.Verdict.the-variants.{Fine, Refused}
+use Rattle.refusals.specs.Table.{numberOf}
 use Rattle.refusals.specs.Order.{_then_}
 use Rattle.rules.specs.Words.{ruleCount}
 use Rattle.rules.specs.Good.{ruleVerdict, listVerdict}
@@ -18,38 +19,28 @@ use Rattle.tree_check.specs.TreeCheck.{wordsVerdict}
 use Rattle.tree_check.proofs.Only.{Only, fine, refused, only-wider}
 use Rattle.tree_check.proofs.Only.{unless-only, then-only, turns-only, cond-only}
 
--- a refusal is not that a leaf lacks a rule
+-- a refusal is not 8, which says that a leaf lacks a rule
 abbrev pub NotLack : Refusal → Type 0
-NotLack RuleWordsWrong = Unit {0}
-NotLack (RuleNotGood rule) = Unit {0}
-NotLack (HeaderWrong field) = Unit {0}
-NotLack (OutputShort needed output) = Unit {0}
-NotLack TreeWordsWrong = Unit {0}
-NotLack (NodeWrong node) = Unit {0}
-NotLack (LeafWrong node) = Unit {0}
-NotLack (LeafLacksRule node rule) = ⊥
-NotLack (LineWrong line) = Unit {0}
-NotLack (TextStops lines) = Unit {0}
-NotLack FileNotRead = Unit {0}
+NotLack why = numberOf why ≡ 8 → ⊥
 
 -- a refusal is 6 or 7
 pub data Malformed : Refusal → Type 0 where
   six : {i : ℕ} → Malformed (NodeWrong i)
   seven : {i : ℕ} → Malformed (LeafWrong i)
 
--- then it is not that a leaf lacks a rule
+-- then it is not 8
 pub not-lack-of-malformed : (why : Refusal) → Malformed why → NotLack why
-not-lack-of-malformed why six = tt
-not-lack-of-malformed why seven = tt
+not-lack-of-malformed why six e = omega arith
+not-lack-of-malformed why seven e = omega arith
 
--- a verdict that only the last stage gives: fine, or that a leaf lacks a rule
+-- a verdict that only the last stage gives: fine, or 8
 abbrev pub Last : Verdict → Type 0
 Last Fine = Unit {0}
-Last (Refused why) = NotLack why → ⊥
+Last (Refused why) = numberOf why ≡ 8
 
 -- another refusal is no such verdict
 pub not-last {ℓ} : {A : Type ℓ} {why : Refusal} {u : Verdict} → NotLack why → Last u → Refused why ≡ u → A
-not-last n l e = absurd (subst (λ (u : Verdict). Last u → ⊥) e (λ f. f n) l)
+not-last n l e = absurd (subst (λ (u : Verdict). Last u → ⊥) e n l)
 
 -- where two checks in order give what only the last gives, the first is fine and the second gives it
 pub then-last : {v w u : Verdict} → Only NotLack v → Last u → (v then w) ≡ u → (v ≡ Fine) × (w ≡ u)
@@ -63,16 +54,17 @@ then-last (refused n) l e = not-last n l e
 list-no-lack : (rs : List ℕ) → Only NotLack (listVerdict rs)
 unfolding listVerdict ruleVerdict
 list-no-lack rs =
-    then-only (unless-only _ RuleWordsWrong tt)
-    (then-only (unless-only _ RuleWordsWrong tt) (turns-only _ _ _ (λ r. unless-only _ (RuleNotGood r) tt)))
+    then-only (unless-only _ RuleWordsWrong (λ e. omega arith))
+    (then-only (unless-only _ RuleWordsWrong (λ e. omega arith))
+    (turns-only _ _ _ (λ r. unless-only _ (RuleNotGood r) (λ e. omega arith))))
 
 -- nor do the sizes
 sizes-no-lack : (nodes pool : List ℕ) → Only NotLack (sizeVerdict nodes pool)
 unfolding sizeVerdict
 sizes-no-lack nodes pool =
-    then-only (unless-only _ TreeWordsWrong tt)
-    (then-only (unless-only _ TreeWordsWrong tt)
-    (then-only (unless-only _ TreeWordsWrong tt) (unless-only _ TreeWordsWrong tt)))
+    then-only (unless-only _ TreeWordsWrong (λ e. omega arith))
+    (then-only (unless-only _ TreeWordsWrong (λ e. omega arith))
+    (then-only (unless-only _ TreeWordsWrong (λ e. omega arith)) (unless-only _ TreeWordsWrong (λ e. omega arith))))
 
 -- a node that is not spelt is refused with 6 or 7
 node-malformed : (n : ℕ) (nodes pool : List ℕ) (i : ℕ) → Only Malformed (nodeVerdict n nodes pool i)

@@ -1,6 +1,7 @@
 -- The stages of the check: it accepts, or says that a leaf lacks a rule, exactly where it reaches the root's part and
 -- accepts that, and the part's lack decides.
 use Prim.Native.Nat.{ℕ}
+use native.Mathlib.Omega.{arith}
 use mathlib.Core.Path.{_≡_, refl, ap, _∙_}
 use mathlib.Core.List.{List}
 use lib.Dec.{eqb}
@@ -41,7 +42,7 @@ part-last :
     partVerdict m p ≡ u → (c : ℕ) × (l : ℕ) × (y : Lack) × (p ≡ Good m c l y) × (lackVerdict y ≡ u)
 part-last m (Refused why) n l e = not-last (not-lack-of-malformed why (n why refl)) l e
 part-last m (Good next c l' y) n l e =
-    let t = then-last (unless-only (eqb next m) (NodeWrong next) tt) l e in
+    let t = then-last (unless-only (eqb next m) (NodeWrong next) (λ e. omega arith)) l e in
     let q : next ≡ m = eqb-true next m (fine-iff-holds _ _ .0 (t .0)) in
     (c, l', y, ap (λ (k : ℕ). Good k c l' y) q, t .1)
 

@@ -1,4 +1,5 @@
 // The words of a tree.
+use fields::header::FIELDS;
 ghost use Prim.Native.Nat.{_<_};
 ghost use mathlib.Core.Path.{_≡_};
 ghost use Rattle.trees.specs.Words.{nodeWords, nodeCount, valueOf};
@@ -13,8 +14,8 @@ pub const MOST_NODES: usize = 2047;
 
 pub const MOST_POOL: usize = 4096;
 
-// The first word of a leaf; that of a cut is its field.
-pub const LEAF_MARK: usize = 5;
+// The first word of a leaf, the number of fields; that of a cut is its field.
+pub const LEAF_MARK: usize = FIELDS;
 
 // The words of a node by their places: a cut's field, value and right child; a leaf's mark, start and count.
 pub const FIRST: usize = 0;

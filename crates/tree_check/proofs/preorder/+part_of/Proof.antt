@@ -12,7 +12,7 @@ use Rattle.tree_check.proofs.preorder.part_of.Reads.{Post}
 use Rattle.tree_check.proofs.preorder.+part_of.Lts-part_of as lts
 use Rattle.tree_check.proofs.preorder.+part_of.{statement}
 use Rattle.tree_check.proofs.preorder.+part_of.Tie.{close}
-use Seen.{μ, given, calls, leaf-seen, leaf-within, cut-seen}
+use Seen.{μ, given, calls, leaf-entry, cut-entry, left-check, leaf-seen, leaf-within, cut-seen}
 
 module _ (t : ℕ) where
   look-at-requires : lts.Need-look-at-requires (calls t) (given t) Post
@@ -25,11 +25,10 @@ module _ (t : ℕ) where
   enum-known-start c = search needs
 
   add-end : lts.Need-add-end (calls t) (given t) Post
-  add-end c = omega (arith, leaf-within (c .before), c .before .before .before .before .before .before .before .good)
+  add-end c = omega (arith, leaf-within (c .before), leaf-entry (c .before) .good)
 
   mul-leaf-part : lts.Need-mul-leaf-part (calls t) (given t) Post
-  mul-leaf-part c =
-      omega (arith, leaf-within (c .before), c .before .before .before .before .before .before .before .good)
+  mul-leaf-part c = omega (arith, leaf-within (c .before), leaf-entry (c .before) .good)
 
   sub-leaf-part : lts.Need-sub-leaf-part (calls t) (given t) Post
   sub-leaf-part c = omega arith
@@ -42,16 +41,16 @@ module _ (t : ℕ) where
 
   leaf-part-requires : lts.Need-leaf-part-requires (calls t) (given t) Post
   leaf-part-requires c κs =
-      let e = leaf-seen (c .before .before) in
-      omega (arith, e .is .there, c .before .before .before .before .before .before .before .before .good)
+      let e = c .before .before in
+      omega (arith, leaf-seen e .is .there, leaf-entry e .good)
 
   enum-known-field : lts.Need-enum-known-field (calls t) (given t) Post
   enum-known-field c = search needs
 
   add-part-of : lts.Need-add-part-of (calls t) (given t) Post
   add-part-of c =
-      let e = cut-seen (c .before) in
-      omega (arith, e .is .there, c .before .before .before .before .before .before .before .good)
+      let e = c .before in
+      omega (arith, cut-seen e .is .there, cut-entry e .good)
 
   left-part-requires : lts.Need-left-part-requires (calls t) (given t) Post
   left-part-requires c κs = search needs
@@ -61,7 +60,7 @@ module _ (t : ℕ) where
 
   part-of-requires : lts.Need-part-of-requires (calls t) (given t) Post
   part-of-requires c κs =
-      let s = c .before .before .before .before .before .before .before .before in
+      let s = cut-entry (c .before .before) in
       (omega (arith, s .pre .0, sub-part-of c), (s .pre .1 .0, omega (arith, s .pre .1 .1)))
 
   enum-known-why : lts.Need-enum-known-why (calls t) (given t) Post
@@ -72,34 +71,36 @@ module _ (t : ℕ) where
 
   returns : lts.Need-returns (calls t) (given t) Post
   returns c =
-      let p = c .before .before .before .before in
+      let n = c .before .before in
+      let p = left-check n in
       wrong-child _ _ _ _ _ _ (cut-seen (p .before .before .before)) _ (p .before .left-part .ensures)
-      (p .part-of .ensures) (c .before .before .next .given .1) (c .if1 .taken)
+      (p .part-of .ensures) (n .next .given .1) (c .if1 .taken)
 
   right-part-requires : lts.Need-right-part-requires (calls t) (given t) Post
   right-part-requires c κs = search needs
 
   sub-part-of-2 : lts.Need-sub-part-of-2 (calls t) (given t) Post
-  sub-part-of-2 c = sub-part-of (c .before .before .before .before .before .before)
+  sub-part-of-2 c = sub-part-of (left-check (c .before .before .before) .before)
 
   part-of-requires-2 : lts.Need-part-of-requires-2 (calls t) (given t) Post
-  part-of-requires-2 c κs = part-of-requires (c .before .before .before .before .before .before) κs
+  part-of-requires-2 c κs = part-of-requires (left-check (c .before .before .before) .before) κs
 
   join-requires : lts.Need-join-requires (calls t) (given t) Post
   join-requires c κs =
-      let p = c .before .before .before .before .before .before in
-      let few = p .before .before .before .before .before .before .before .before .before .pre .1 .1 in
+      let n = c .before .before .before .before in
+      let p = left-check n in
+      let e = p .before .before .before in
+      let few = cut-entry e .pre .1 .1 in
       let left =
-      left-shallow _ _ _ _ _ _ (cut-seen (p .before .before .before)) _ (p .before .left-part .ensures)
-      (p .part-of .ensures) (c .before .before .before .before .next .given .1) in
+      left-shallow _ _ _ _ _ _ (cut-seen e) _ (p .before .left-part .ensures)
+      (p .part-of .ensures) (n .next .given .1) in
       (omega (arith, few, left), part-is-shallow _ _ _ _ _ _ _ (c .part-of2 .ensures) (omega (arith, few)))
 
   returns-2 : lts.Need-returns-2 (calls t) (given t) Post
   returns-2 c = sees-wrong _ _ _ _ _ _ _ (c .before .before .look-at .ensures) (c .enum-told .given .1)
 
   returns-3 : lts.Need-returns-3 (calls t) (given t) Post
-  returns-3 c =
-      seen-part _ _ _ _ _ _ (leaf-seen (c .before .before .before)) (c .leaf-part .ensures)
+  returns-3 c = seen-part _ _ _ _ _ _ (leaf-seen (c .before .before .before)) (c .leaf-part .ensures)
 
   returns-4 : lts.Need-returns-4 (calls t) (given t) Post
   returns-4 c =
@@ -110,9 +111,10 @@ module _ (t : ℕ) where
   returns-5 : lts.Need-returns-5 (calls t) (given t) Post
   returns-5 c =
       let r = c .before .before in
-      let p = r .before .before .before .before .before in
+      let n = r .before .before .before in
+      let p = left-check n in
       parts-joined _ _ _ _ _ _ (cut-seen (p .before .before .before)) _ (p .before .left-part .ensures)
-      (p .part-of .ensures) (r .before .before .before .next .given .1) _ (r .before .if1 .left)
+      (p .part-of .ensures) (n .next .given .1) _ (r .before .if1 .left)
       (r .right-part .ensures) (c .before .part-of2 .ensures) (c .join .ensures)
 
 pub +part-of-spec : {M : Type 1} → statement M

@@ -46,10 +46,25 @@ module _ (t : ℕ) where
   )
 
 module _ {t : ℕ} where
+  -- the entry of the function, from where a leaf's words are read
+  abbrev pub leaf-entry :
+      lts.After-start (calls t) (given t) part-of.Post → lts.Start (calls t) (given t) part-of.Post
+  leaf-entry c = c .before .before .before .before .before .before
+
+  -- the entry of the function, from where a cut's words are read
+  abbrev pub cut-entry :
+      lts.After-field (calls t) (given t) part-of.Post → lts.Start (calls t) (given t) part-of.Post
+  cut-entry c = c .before .before .before .before .before .before
+
+  -- the check of the left part, from where its answer is read
+  abbrev pub left-check :
+      lts.After-next (calls t) (given t) part-of.Post → lts.After-part-of (calls t) (given t) part-of.Post
+  left-check c = c .before .before
+
   -- a leaf is seen at the node
   pub leaf-seen :
       (c : lts.After-start (calls t) (given t) part-of.Post) →
-      let a = c .before .before .before .before .before .before .args in
+      let a = leaf-entry c .args in
       SeesLeaf (a .rules .now) (a .nodes .now) (a .pool .now) (a .cuts) (a .bounds) (a .at)
       (c .start .given .0 .0) (c .start .given .0 .1 .0)
   leaf-seen c = sees-leaf _ _ _ _ _ _ _ (c .before .before .look-at .ensures) (c .start .given .1)
@@ -57,15 +72,13 @@ module _ {t : ℕ} where
   -- its entries lie within the pool
   pub leaf-within :
       (c : lts.After-start (calls t) (given t) part-of.Post) →
-      c .start .given .0 .0 + c .start .given .0 .1 .0 ≤
-      length (c .before .before .before .before .before .before .args .pool .now)
-  leaf-within c =
-      seen-within _ _ _ _ _ _ (leaf-seen c) (c .before .before .before .before .before .before .pre .1 .0)
+      c .start .given .0 .0 + c .start .given .0 .1 .0 ≤ length (leaf-entry c .args .pool .now)
+  leaf-within c = seen-within _ _ _ _ _ _ (leaf-seen c) (leaf-entry c .pre .1 .0)
 
   -- a cut is seen at the node
   pub cut-seen :
       (c : lts.After-field (calls t) (given t) part-of.Post) →
-      let a = c .before .before .before .before .before .before .args in
+      let a = cut-entry c .args in
       SeesCut (a .rules .now) (a .nodes .now) (a .pool .now) (a .cuts) (a .bounds) (a .at)
       (c .field .given .0 .0) (c .field .given .0 .1 .0) (c .field .given .0 .1 .1 .0)
   cut-seen c = sees-cut _ _ _ _ _ _ _ (c .before .before .look-at .ensures) (c .field .given .1)

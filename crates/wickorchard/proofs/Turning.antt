@@ -8,6 +8,7 @@ use mathlib.Core.List.{List, [], _∷_, _++_}
 use lib.ListN.{length, getD, take, drop, length-drop, length-take}
 use lib.Seq.{take-all, take-take, take-add}
 use Rattle.facts.specs.Lists.{written}
+use Rattle.facts.proofs.Bools.{clash}
 use Rattle.facts.proofs.Steps.{drop-step}
 use Rattle.console.specs.declared.gather.Gathering.{Gathering}
 use Rattle.console.specs.declared.feed.Fed.{Fed}
@@ -123,3 +124,21 @@ last-unwritten t e = rw e
 -- else the reply to the last part is
 pub last-written : (t : Turn) → t .written ≡ true → lastReply (t .gathering) ≡ dueAtEnd t
 last-written t e = rw e
+
+-- where what comes before could not be told, nothing is read and nothing is due
+pub record Untold (told : Bool) (t : Turn) : Type 0 where
+  pub none-read : told ≡ false → t .more ≡ false
+  pub none-due : told ≡ false → t .written ≡ false
+
+-- so it is at the first turn
+pub untold-first : {told : Bool} {t : Turn} → t ≡ firstTurn told → Untold told t
+unfolding firstTurn
+untold-first {told} {t} e =
+    record {
+      none-read = λ q. rw q at (ap (λ (u : Turn). u .more) e);
+      none-due = λ q. rw q at (ap (λ (u : Turn). u .written) e);
+    }
+
+-- after a turn from which more was read it was told
+pub untold-again : {told : Bool} {s t : Turn} → Untold told s → s .more ≡ true → Untold told t
+untold-again u m = record { none-read = λ q. clash m (u .none-read q); none-due = λ q. clash m (u .none-read q) }

@@ -7,6 +7,7 @@ use console::feed::feed;
 use console::gather::Gathering;
 use libc::STDIN_FILENO;
 ghost use Prim.Native.Nat.{_≤_};
+ghost use mathlib.Core.Bool.{false};
 ghost use mathlib.Core.Path.{_≡_};
 ghost use lib.ListN.{length};
 ghost use Rattle.console.specs.Lines.{mostReply};
@@ -26,10 +27,11 @@ pub struct Turn {
 }
 
 // Answers standard input to its end, and then the part that has no newline. Output that cannot be written stops it; so
-// it does not begin where the refusal of the tree could not be told. Nothing proves that input ends, so the reads are
-// counted down, from a number that no run uses up.
-pub(crate) fn serve(rules: &[u32], nodes: &[u32], pool: &[u32], accepted: bool, told: bool)
+// it does not begin where the refusal of the tree could not be told. It answers whether all that was due was written.
+// Nothing proves that input ends, so the reads are counted down, from a number that no run uses up.
+pub(crate) fn serve(rules: &[u32], nodes: &[u32], pool: &[u32], accepted: bool, told: bool) -> bool
     requires { ⌜ AnswersAsList (now rules) (now nodes) (now pool) accepted ⌝ }
+    ensures { λ r. ⌜ (told ≡ false → r ≡ false) ⌝ }
 {
     let mut piece = [0u8; PIECE];
     let mut out = [0u8; PIECE];
@@ -39,7 +41,10 @@ pub(crate) fn serve(rules: &[u32], nodes: &[u32], pool: &[u32], accepted: bool, 
         turn = answer_some(rules, nodes, pool, accepted, turn, &mut piece, &mut out);
         reads -= 1;
     }
-    say_last(turn);
+    if !turn.written {
+        return false;
+    }
+    say_last(turn)
 }
 
 // Reads once, and answers what came.

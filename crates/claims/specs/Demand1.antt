@@ -15,6 +15,7 @@ use Rattle.rule_file.specs as rule-file
 use Rattle.tree_file.specs as tree-file
 use Rattle.console.specs as console
 use Rattle.policy.specs as policy
+use Rattle.policy.specs.declared.tree.Taken.{Taken}
 use Rattle.rules.proofs as in-rules
 use Rattle.trees.proofs as in-trees
 use Rattle.tree_check.proofs as in-check
@@ -76,5 +77,4 @@ pub record Calls : Type 0 where
       (f : Option (List ℕ)) (w : List ℕ) → Writes w (policy.TakeList.ListTaken f w) policy.TakeList.paper (value 0)
   pub take-tree :
       (f : Option (List ℕ)) (ns es : List ℕ) →
-      Fixes
-      (λ (x : policy.declared.tree.Taken.Taken × List ℕ × List ℕ). policy.TakeTree.TreeTaken f ns es (x .0) (x .1) (x .2))
+      Fixes (λ (x : Taken × List ℕ × List ℕ). policy.TakeTree.TreeTaken f ns es (x .0) (x .1) (x .2))

@@ -15,7 +15,7 @@ pub enum Taken {
 }
 
 // The words of the tree, from the front of `nodes` and of `pool` on; the rest of both is as found. A refusal writes
-// nothing. Whether the tree may serve is the check's to say; so the rule count that the text announces is not looked at.
+// nothing. Whether the tree may serve is for the check to say, so the text's own rule count is not looked at.
 pub fn take_tree(file: File, buffer: &[u8], nodes: &mut [u32], pool: &mut [u32]) -> Taken
     ensures { λ r. ⌜ TreeTaken (textIn file (now (buffer .entry))) (now (nodes .entry)) (now (pool .entry)) r
         (now (nodes .exit)) (now (pool .exit)) ⌝ }

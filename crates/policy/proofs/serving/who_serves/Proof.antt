@@ -38,8 +38,8 @@ returns-2 c =
     let nodes = pool .before in
     let words = nodes .before .before in
     let start = words .before .before .before .before .before in
-    serves-checked (start .args .rules .now) (start .args .nodes .now) (start .args .pool .now) (words .taken2 .given .1)
-    (nodes .within .ensures) (pool .within2 .ensures) (c .checked .ensures)
+    serves-checked (start .args .rules .now) (start .args .nodes .now) (start .args .pool .now)
+    (words .taken2 .given .1) (nodes .within .ensures) (pool .within2 .ensures) (c .checked .ensures)
 
 pub who-serves-spec : {M : Type 1} → statement M
 who-serves-spec =

@@ -1,4 +1,4 @@
--- `wickorchard::serve::serve` meets its contract, and ends: the measure is the number of reads that are left, and nothing
+-- `wickorchard::serve::serve` meets its contract, and ends: the measure is the number of reads that are left. Nothing
 -- is read where what comes before could not be told. Assumes nothing.
 use native.Mathlib.Omega.{arith}
 use mathlib.Core.Path.{_≡_, refl}

@@ -6,14 +6,13 @@ use mathlib.Core.List.{List, [], _∷_}
 use mathlib.Core.Option.{Option}
 use lib.ListN.{length, drop}
 use Rattle.facts.specs.Lists.{written}
-use Rattle.facts.proofs.Setting.{written-behind}
 use Rattle.refusals.specs.declared.Verdict.{Verdict}
 use Rattle.refusals.specs.declared.Verdict.the-variants.{Fine}
 use Rattle.refusals.specs.Paper.{Paper}
 use Rattle.refusals.specs.Order.{_giving_, leaving}
-use Rattle.refusals.specs.Promises.{Fixes, Settles, Writes, value}
+use Rattle.refusals.specs.Promises.{Writes, Fixes, Settles, WritesOnly, value}
 use Rattle.refusals.proofs.Order.{refused-not-fine}
-use Rattle.refusals.proofs.Promises.{writes}
+use Rattle.refusals.proofs.Promises.{refused-as-found, rest-as-found}
 use Rattle.rules.specs.Words.{ruleWords, ruleCount}
 use Rattle.rules.specs.LineAll.{lineAll, lineAllWords, LineAllSearched}
 use Rattle.rules.specs.LineAll as line
@@ -68,10 +67,10 @@ code-claim = (
   in-trees.search.tree_all.Met.met,
   in-trees.search.tree_first.Met.met,
   in-check.check.tree_check.Met.met,
-  in-rule-file.write.write_rules.Met.met,
-  in-rule-file.read.read_rules.Met.met,
-  in-tree-file.write.write_tree.Met.met,
-  in-tree-file.read.read_tree.Met.met,
+  in-rule-file.write.rules_write.Met.met,
+  in-rule-file.read.rules_read.Met.met,
+  in-tree-file.write.tree_write.Met.met,
+  in-tree-file.read.tree_read.Met.met,
   in-console.reply.reply.Met.met,
   in-console.feed.feed.Met.met,
   in-console.feed.last_reply.Met.met,
@@ -98,48 +97,55 @@ fronts :
     {R : Type 0} {w : List ℕ} {P : R → List ℕ → Type 0} {paper : R → Paper} {size : List ℕ → ℕ} (v : Verdict)
     (values new : List ℕ) → Settles P →
     ((r : R) (after : List ℕ) → P r after → (paper r ≡ (v giving values)) × (after ≡ leaving v (written new w) w)) →
-    (v ≡ Fine → length new ≡ size values) → Writes w P paper size
-fronts {w = w} v values new one says counts =
-    writes v values (written new w) one says (λ e. written-behind new w _ (counts e))
+    (v ≡ Fine → length new ≡ size values) → WritesOnly w P paper size
+fronts {R} {w} {P} {paper} {size} v values new one says counts =
+    record {
+      one = one;
+      refused = λ r a n p e q s. refused-as-found (shape r a q) s;
+      rest = λ r a vs q s. rest-as-found (shape r a q) size counts s;
+    }
+  where
+    shape : (r : R) (a : List ℕ) → P r a → Writes paper v values new w r a
+    shape r a q = record { answers = says r a q .0; leaves = says r a q .1 }
 
-line-writes : (rs h w : List ℕ) → Writes w (LineAllSearched rs h w) line.paper (value 0)
+line-writes : (rs h w : List ℕ) → WritesOnly w (LineAllSearched rs h w) line.paper (value 0)
 unfolding lineAll lineAllWords
 line-writes rs h w =
     fronts _ _ _ (λ r s v u p q. line-all-searched-unique p q) (λ r a p. (p .answers, p .leaves))
     (λ e. refl)
 
 tree-writes :
-    (rs ns es h w : List ℕ) → Writes w (TreeAllSearched rs ns es h w) (λ r. said (tree.paper r)) (value 0)
+    (rs ns es h w : List ℕ) → WritesOnly w (TreeAllSearched rs ns es h w) (λ r. said (tree.paper r)) (value 0)
 unfolding treeAll treeAllWords
 tree-writes rs ns es h w =
     fronts _ _ _ (λ r s v u p q. tree-all-searched-unique p q)
     (λ r a p. (ap said (p .answers) ∙ said-of-counting _ _ _ _, p .leaves)) (λ e. refl)
 
-rules-written-writes : (rs w : List ℕ) → Writes w (RulesWritten rs w) write-rules.paper (value 0)
+rules-written-writes : (rs w : List ℕ) → WritesOnly w (RulesWritten rs w) write-rules.paper (value 0)
 unfolding writeRules writeRulesBytes
 rules-written-writes rs w =
     fronts _ _ _ (λ r s v u p q. rules-written-unique p q) (λ r a p. (p .answers, p .leaves))
     (λ e. refl)
 
-tree-written-writes : (k : ℕ) (ns es w : List ℕ) → Writes w (TreeWritten k ns es w) write-tree.paper (value 0)
+tree-written-writes : (k : ℕ) (ns es w : List ℕ) → WritesOnly w (TreeWritten k ns es w) write-tree.paper (value 0)
 unfolding writeTree writeTreeBytes
 tree-written-writes k ns es w =
     fronts _ _ _ (λ r s v u p q. tree-written-unique p q) (λ r a p. (p .answers, p .leaves))
     (λ e. refl)
 
-reply-writes : (bytes w : List ℕ) → Writes w (Said bytes w) lines.paper (value 0)
+reply-writes : (bytes w : List ℕ) → WritesOnly w (Said bytes w) lines.paper (value 0)
 reply-writes bytes w =
     fronts _ _ _ (λ r s v u p q. said-unique p q) (λ r a p. (p .answers, p .leaves)) (λ e. refl)
 
 -- ---- the readers
 
-rules-read-writes : (s w : List ℕ) → Writes w (RulesRead s w) read-rules.paper (λ vs. value 0 vs * ruleWords)
+rules-read-writes : (s w : List ℕ) → WritesOnly w (RulesRead s w) read-rules.paper (λ vs. value 0 vs * ruleWords)
 unfolding readRules readRulesWords
 rules-read-writes s w =
     fronts _ _ _ (λ r t v u p q. rules-read-unique p q) (λ r a p. (p .answers, p .leaves))
     (λ e. words-whole s (rulesIn s) refl)
 
-list-taken-writes : (f : Option (List ℕ)) (w : List ℕ) → Writes w (ListTaken f w) take-list.paper (value 0)
+list-taken-writes : (f : Option (List ℕ)) (w : List ℕ) → WritesOnly w (ListTaken f w) take-list.paper (value 0)
 list-taken-writes f w =
     fronts _ _ _ (λ r t v u p q. list-taken-unique p q) (λ r a p. (p .answers, p .leaves))
     (λ e. refl)
@@ -155,7 +161,7 @@ tree-values s a b (good (tree n ns es)) q e =
 
 nodes-read-writes :
     (s w es after : List ℕ) →
-    Writes w (λ r v. TreeRead s w es r v after) read-tree.paper (λ vs. value 1 vs * nodeWords)
+    WritesOnly w (λ r v. TreeRead s w es r v after) read-tree.paper (λ vs. value 1 vs * nodeWords)
 unfolding readTree readNodes readVerdict
 nodes-read-writes s w es after =
     fronts _ _ _ (λ r t v u p q. let e = tree-read-unique p q in (e .0, e .1))
@@ -163,7 +169,7 @@ nodes-read-writes s w es after =
     (λ e. tree-values s (length w) (length es) (treeIn s) refl e .0)
 
 pool-read-writes :
-    (s ns w after : List ℕ) → Writes w (λ r v. TreeRead s ns w r after v) read-tree.paper (value 2)
+    (s ns w after : List ℕ) → WritesOnly w (λ r v. TreeRead s ns w r after v) read-tree.paper (value 2)
 unfolding readTree readPool readVerdict
 pool-read-writes s ns w after =
     fronts _ _ _ (λ r t v u p q. let e = tree-read-unique p q in (e .0, e .2)) (λ r a p. (p .answers, p .leaves-pool))
@@ -185,12 +191,12 @@ calls-claim =
       tree-all = tree-writes;
       tree-first = λ rs ns es h r s p q. tree-first-searched-unique p q;
       tree-check = λ rs ns es r s p q. tree-checked-unique p q;
-      write-rules = rules-written-writes;
-      read-rules = rules-read-writes;
-      write-tree = tree-written-writes;
-      read-tree = λ s ns es x y p q. same-three (tree-read-unique p q);
-      read-nodes = nodes-read-writes;
-      read-pool = pool-read-writes;
+      rules-write = rules-written-writes;
+      rules-read = rules-read-writes;
+      tree-write = tree-written-writes;
+      tree-read = λ s ns es x y p q. same-three (tree-read-unique p q);
+      tree-read-nodes = nodes-read-writes;
+      tree-read-pool = pool-read-writes;
       reply = reply-writes;
       take-list = list-taken-writes;
       take-tree = λ f ns es x y p q. same-three (tree-taken-unique p q);

@@ -1,7 +1,7 @@
 -- The worked policy's rows hold, by computation.
 use mathlib.Core.Path.{refl}
 use Rattle.facts.specs.Below.{allBelow, lowest}
-use Rattle.facts.specs.Lists.{run, keep, has, rises, allUnder}
+use Rattle.facts.specs.Lists.{upFrom, keep, has, rises, allUnder}
 use Rattle.refusals.specs.Order.{refuseUnless, roomVerdict, _then_, inTurn, _giving_}
 use Rattle.fields.specs.Boxes.{meets}
 use Rattle.fields.specs.Cuts.{divides, leftOf, rightOf}
@@ -15,7 +15,7 @@ use Rattle.rules.specs.LineAll.{allVerdict, lineAll}
 use Rattle.rules.specs.LineFirst.{lineFirst}
 use Rattle.trees.specs.Words.{entries, sizeVerdict}
 use Rattle.trees.specs.Walk.{sideOf, stepOf, walk, walkOf}
-use Rattle.trees.specs.Search.{leafVerdict, treeVerdict, leafList, treeList, lookedAt}
+use Rattle.trees.specs.Search.{leafVerdict, reachVerdict, leafList, treeList, lookedAt}
 use Rattle.trees.specs.Counted.{counting}
 use Rattle.trees.specs.TreeAll.{treeAllVerdict, treeAll}
 use Rattle.trees.specs.TreeFirst.{treeFirst}
@@ -25,10 +25,10 @@ use Rattle.tree_check.specs.TreeCheck.{rootPart, wordsVerdict, checkVerdict, tr
 use Rattle.claims.specs.Worked.{AllHold, table}
 
 pub worked : AllHold table
-unfolding allBelow lowest run keep has rises allUnder refuseUnless roomVerdict _then_ inTurn _giving_ meets
+unfolding allBelow lowest upFrom keep has rises allUnder refuseUnless roomVerdict _then_ inTurn _giving_ meets
     divides leftOf rightOf fieldVerdict headerVerdict span prefixGood prefixAgrees prefixEnds rangeGood
     rangeHolds rangesMeet good ruleVerdict listVerdict lacking lowestLacking matches matching ruleBox entries
-    allVerdict lineAll lineFirst sizeVerdict sideOf stepOf walk walkOf leafVerdict treeVerdict leafList treeList
+    allVerdict lineAll lineFirst sizeVerdict sideOf stepOf walk walkOf leafVerdict reachVerdict leafList treeList
     lookedAt counting treeAllVerdict treeAll treeFirst leafCount countsBelow leafSpelt nodeVerdict speltVerdict
     lackOf leafPart cutPart nodePart partOf rootPart wordsVerdict checkVerdict treeCheck
 worked = (

@@ -3,11 +3,11 @@
 --   Code M     the code of each call meets the contract that stands over it, in the prover's own words: from
 --              any lent words it ends, stays within them, overflows nothing, and its promise then holds
 --   Calls      each promise allows one result (`Fixes`) and one state of the lent words; a refusal leaves
---              them as found, and a success those past what was written (`Writes`)
+--              them as found, and a success those past what was written (`WritesOnly`)
 use Prim.Native.Nat.{ℕ, _*_}
 use mathlib.Core.List.{List}
 use mathlib.Core.Option.{Option}
-use Rattle.refusals.specs.Promises.{Fixes, Writes, value}
+use Rattle.refusals.specs.Promises.{Fixes, WritesOnly, value}
 use Rattle.rules.specs as rules
 use Rattle.trees.specs as trees
 use Rattle.tree_check.specs as tree-check
@@ -30,8 +30,8 @@ Code M =
     in-rules.check.rule_check.Statement.statement M × in-rules.line.line_all.Statement.statement M ×
     in-rules.line.line_first.Statement.statement M × in-trees.search.tree_all.Statement.statement M ×
     in-trees.search.tree_first.Statement.statement M × in-check.check.tree_check.Statement.statement M ×
-    in-rule-file.write.write_rules.Statement.statement M × in-rule-file.read.read_rules.Statement.statement M ×
-    in-tree-file.write.write_tree.Statement.statement M × in-tree-file.read.read_tree.Statement.statement M ×
+    in-rule-file.write.rules_write.Statement.statement M × in-rule-file.read.rules_read.Statement.statement M ×
+    in-tree-file.write.tree_write.Statement.statement M × in-tree-file.read.tree_read.Statement.statement M ×
     in-console.reply.reply.Statement.statement M × in-console.feed.feed.Statement.statement M ×
     in-console.feed.last_reply.Statement.statement M × in-policy.list.take_list.Statement.statement M ×
     in-policy.tree.take_tree.Statement.statement M × in-policy.serving.who_serves.Statement.statement M ×
@@ -45,36 +45,36 @@ Code M =
 
 pub record Calls : Type 0 where
   pub rule-check : (rs : List ℕ) → Fixes (rules.RuleCheck.RuleChecked rs)
-  pub line-all : (rs h w : List ℕ) → Writes w (rules.LineAll.LineAllSearched rs h w) rules.LineAll.paper (value 0)
+  pub line-all : (rs h w : List ℕ) → WritesOnly w (rules.LineAll.LineAllSearched rs h w) rules.LineAll.paper (value 0)
   pub line-first : (rs h : List ℕ) → Fixes (rules.LineFirst.LineFirstSearched rs h)
   pub tree-all :
       (rs ns es h w : List ℕ) →
-      Writes w (trees.TreeAll.TreeAllSearched rs ns es h w) (λ r. trees.Counted.said (trees.TreeAll.paper r)) (value 0)
+      WritesOnly w (trees.TreeAll.TreeAllSearched rs ns es h w) (λ r. trees.Counted.said (trees.TreeAll.paper r)) (value 0)
   pub tree-first : (rs ns es h : List ℕ) → Fixes (trees.TreeFirst.TreeFirstSearched rs ns es h)
   pub tree-check : (rs ns es : List ℕ) → Fixes (tree-check.TreeCheck.TreeChecked rs ns es)
-  pub write-rules :
-      (rs w : List ℕ) → Writes w (rule-file.WriteRules.RulesWritten rs w) rule-file.WriteRules.paper (value 0)
-  pub read-rules :
+  pub rules-write :
+      (rs w : List ℕ) → WritesOnly w (rule-file.WriteRules.RulesWritten rs w) rule-file.WriteRules.paper (value 0)
+  pub rules-read :
       (s w : List ℕ) →
-      Writes w (rule-file.ReadRules.RulesRead s w) rule-file.ReadRules.paper (λ vs. value 0 vs * rules.Words.ruleWords)
-  pub write-tree :
+      WritesOnly w (rule-file.ReadRules.RulesRead s w) rule-file.ReadRules.paper (λ vs. value 0 vs * rules.Words.ruleWords)
+  pub tree-write :
       (k : ℕ) (ns es w : List ℕ) →
-      Writes w (tree-file.WriteTree.TreeWritten k ns es w) tree-file.WriteTree.paper (value 0)
-  pub read-tree :
+      WritesOnly w (tree-file.WriteTree.TreeWritten k ns es w) tree-file.WriteTree.paper (value 0)
+  pub tree-read :
       (s ns es : List ℕ) →
       Fixes
       (λ (x : tree-file.declared.read.Read.Read × List ℕ × List ℕ).
       tree-file.ReadTree.TreeRead s ns es (x .0) (x .1) (x .2))
-  pub read-nodes :
+  pub tree-read-nodes :
       (s w es after : List ℕ) →
-      Writes w (λ r v. tree-file.ReadTree.TreeRead s w es r v after) tree-file.ReadTree.paper
+      WritesOnly w (λ r v. tree-file.ReadTree.TreeRead s w es r v after) tree-file.ReadTree.paper
       (λ vs. value 1 vs * trees.Words.nodeWords)
-  pub read-pool :
+  pub tree-read-pool :
       (s ns w after : List ℕ) →
-      Writes w (λ r v. tree-file.ReadTree.TreeRead s ns w r after v) tree-file.ReadTree.paper (value 2)
-  pub reply : (bytes w : List ℕ) → Writes w (console.Lines.Said bytes w) console.Lines.paper (value 0)
+      WritesOnly w (λ r v. tree-file.ReadTree.TreeRead s ns w r after v) tree-file.ReadTree.paper (value 2)
+  pub reply : (bytes w : List ℕ) → WritesOnly w (console.Lines.Said bytes w) console.Lines.paper (value 0)
   pub take-list :
-      (f : Option (List ℕ)) (w : List ℕ) → Writes w (policy.TakeList.ListTaken f w) policy.TakeList.paper (value 0)
+      (f : Option (List ℕ)) (w : List ℕ) → WritesOnly w (policy.TakeList.ListTaken f w) policy.TakeList.paper (value 0)
   pub take-tree :
       (f : Option (List ℕ)) (ns es : List ℕ) →
       Fixes (λ (x : Taken × List ℕ × List ℕ). policy.TakeTree.TreeTaken f ns es (x .0) (x .1) (x .2))

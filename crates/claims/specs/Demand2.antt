@@ -12,7 +12,7 @@ use Rattle.fields.specs as fields
 use Rattle.rules.specs as rules
 use Rattle.rules.specs.Matching.{matches, matching, ruleBox}
 use Rattle.trees.specs as trees
-use Rattle.text.specs.Line.{AllBelow}
+use Rattle.text.specs.Line.{EachUnder}
 use Rattle.text.specs.Text as text
 use Rattle.rule_file.specs.RuleText.{rulesIn, rulesText}
 use Rattle.tree_file.specs.TreeText.{Tree, tree, treeIn}
@@ -38,7 +38,7 @@ pub record ByTree (rs ns es : List ℕ) : Type 0 where
   pub refuses : (h : List ℕ) (n : ℕ) → trees.TreeAll.treeAllVerdict rs ns es h n ≡ rules.LineAll.allVerdict rs h n
   pub leaves : (h found : List ℕ) → trees.TreeAll.treeAllWords rs ns es h found ≡ rules.LineAll.lineAllWords rs h found
   pub first : (h : List ℕ) → trees.Counted.said (trees.TreeFirst.treeFirst rs ns es h) ≡ rules.LineFirst.lineFirst rs h
-  pub completes : (h : List ℕ) → fields.Headers.Legal h → trees.Search.treeVerdict rs ns es h ≡ Fine
+  pub completes : (h : List ℕ) → fields.Headers.Legal h → trees.Search.reachVerdict rs ns es h ≡ Fine
   pub lists : (h : List ℕ) → fields.Headers.Legal h → trees.Search.treeList rs ns es h ≡ matching rs h
 
 -- what is written of fit words reads back as those; what reads well is the text that is written of it, and fit; and cut
@@ -51,13 +51,13 @@ pub record File {W : Type 0} (read : List ℕ → text.Reading W) (write : W →
       read p ≡ text.refused (TextStops (length (text.linesOf (text.split p))))
 
 abbrev pub RuleFile : Type 0
-RuleFile = File rulesIn rulesText (λ ws. (rules.Good.listVerdict ws ≡ Fine) × AllBelow (2 ^ 32) ws)
+RuleFile = File rulesIn rulesText (λ ws. (rules.Good.listVerdict ws ≡ Fine) × EachUnder (2 ^ 32) ws)
 
 abbrev pub treeWritten : Tree → List ℕ
 treeWritten (tree n ns es) = treeText n ns es
 
 abbrev pub TreeFits : Tree → Type 0
-TreeFits (tree n ns es) = Spelling n ns es × AllBelow (2 ^ 32) ns
+TreeFits (tree n ns es) = Spelling n ns es × EachUnder (2 ^ 32) ns
 
 abbrev pub TreeFile : Type 0
 TreeFile = File treeIn treeWritten TreeFits

@@ -10,7 +10,7 @@ use lib.ListN.{length, getD, take, drop, length-append, length-drop}
 use lib.Seq.{drop-drop}
 use borrow.Author.Tests.{le-leb, lt-leb}
 use Rattle.facts.specs.Lists.{written}
-use Rattle.facts.proofs.Cases.{Split, split, atMost, over}
+use Rattle.facts.proofs.Cases.{WithinOrOver, within-or-over, atMost, over}
 use Rattle.facts.proofs.Steps.{drop-step, drop-end}
 use Rattle.refusals.specs.declared.Refusal.{Refusal}
 use Rattle.refusals.specs.declared.Verdict.{Verdict}
@@ -90,9 +90,9 @@ module _ (answer : List ℕ → List ℕ) (g₀ : Gathering) (bs before : List �
         refuses = refusal-giving verdictHere (length here ∷ []) (ap paper (sym e) ∙ s .answers)
 
         over-room : length before - at < length here
-        over-room = go (split (length here) (length before - at))
+        over-room = go (within-or-over (length here) (length before - at))
           where
-            go : Split (length here) (length before - at) → length before - at < length here
+            go : WithinOrOver (length here) (length before - at) → length before - at < length here
             go (atMost k) = refused-not-fine (sym refuses ∙ room-fine-iff _ _ .1 (omega (arith, room)))
             go (over k) = k
 

@@ -7,7 +7,7 @@ use mathlib.Core.Path.{_≡_, refl, sym, ap, _∙_}
 use mathlib.Core.List.{List, [], _∷_, _++_}
 use lib.ListN.{length, take, set, length-append, length-set, length-replicate}
 use lib.Seq.{take-suc-set}
-use Rattle.facts.proofs.Cases.{Split, split, atMost, over}
+use Rattle.facts.proofs.Cases.{WithinOrOver, within-or-over, atMost, over}
 use Rattle.text.specs.Words.{newline}
 use Rattle.text.specs.Places.{following}
 use Rattle.console.specs.declared.gather.Gathering.{Gathering}
@@ -63,27 +63,27 @@ module _ {p : List ℕ} {k : ℕ} {g : Gathering} (q : Holds p k g) where
 
     holds-over : mostBytes ≤ length p → Holds (p ++ (b ∷ [])) k (step g b)
     holds-over h =
-        rw (step-over g b e (full (split (length p) mostBytes)))
+        rw (step-over g b e (full (within-or-over (length p) mostBytes)))
         (record { room = q .room; lines = q .lines; few = λ m. absurd (omega (arith, size)); long = λ m. refl })
       where
-        full : Split (length p) mostBytes → mostBytes ≤ g .count
+        full : WithinOrOver (length p) mostBytes → mostBytes ≤ g .count
         full (atMost m) = omega (arith, q .few m .0)
         full (over m) = omega (arith, q .long m)
 
     -- behind another byte
     pub holds-more : Holds (p ++ (b ∷ [])) k (step g b)
-    holds-more = go (split mostBytes (length p))
+    holds-more = go (within-or-over mostBytes (length p))
       where
-        go : Split mostBytes (length p) → Holds (p ++ (b ∷ [])) k (step g b)
+        go : WithinOrOver mostBytes (length p) → Holds (p ++ (b ∷ [])) k (step g b)
         go (atMost m) = holds-over m
         go (over m) = holds-one m
 
   -- what is replied to the line once it is whole
   pub holds-reply : (answer : List ℕ → List ℕ) → replyAt answer g ≡ lineReply answer k p
   unfolding lineReply
-  holds-reply answer = go (split (length p) mostBytes)
+  holds-reply answer = go (within-or-over (length p) mostBytes)
     where
-      go : Split (length p) mostBytes → replyAt answer g ≡ lineReply answer k p
+      go : WithinOrOver (length p) mostBytes → replyAt answer g ≡ lineReply answer k p
       go (atMost h) =
           let here = q .few h in
           sym (reply-held answer g (omega (arith, here .0))) ∙ rw (q .lines, here .0, here .1)
@@ -93,8 +93,8 @@ module _ {p : List ℕ} {k : ℕ} {g : Gathering} (q : Holds p k g) where
 -- what is replied to it at the end of input
 pub holds-last : (p : List ℕ) {k : ℕ} {g : Gathering} → Holds p k g → lastReply g ≡ onLast k p
 holds-last [] q = sym (last-none _ (q .few (omega arith) .0))
-holds-last (b ∷ bs) {k} {g} q = sym (last-part g (λ e. go e (split (length (b ∷ bs)) mostBytes))) ∙ rw (q .lines)
+holds-last (b ∷ bs) {k} {g} q = sym (last-part g (λ e. go e (within-or-over (length (b ∷ bs)) mostBytes))) ∙ rw (q .lines)
   where
-    go : g .count ≡ 0 → Split (length (b ∷ bs)) mostBytes → ⊥
+    go : g .count ≡ 0 → WithinOrOver (length (b ∷ bs)) mostBytes → ⊥
     go e (atMost h) = omega (arith, q .few h .0)
     go e (over h) = omega (arith, q .long h)

@@ -19,7 +19,7 @@ use Rattle.refusals.proofs.Order.{room-short, room-fine-iff, giving-refused, gi
 use Rattle.rules.specs.Words.{mostRules}
 use Rattle.text.specs.Words.{newline, tab, threeTabs, hitWord, refusedWord}
 use Rattle.text.specs.Numbers.{digitsOf}
-use Rattle.text.specs.Line.{AllBelow, printFields, printLine}
+use Rattle.text.specs.Line.{EachUnder, printFields, printLine}
 use Rattle.text.specs.Puts.{Put}
 use Rattle.text.proofs.Places.{after-few}
 use Rattle.text.proofs.Sizes.{fields-few, line-size}
@@ -87,7 +87,7 @@ pub refused-few :
 unfolding refusedLine printLine
 refused-few why a b c =
     let vs : List ℕ = numberOf why ∷ placeOf why ∷ extraOf why ∷ [] in
-    let below : AllBelow (10 ^ 20) vs = (omega arith, (omega arith, (omega arith, tt))) in
+    let below : EachUnder (10 ^ 20) vs = (omega arith, (omega arith, (omega arith, tt))) in
     simp length-append (omega (arith, fields-few 19 threeTabs vs below))
 
 -- ---- the line of a hit
@@ -101,7 +101,7 @@ unfolding hitLine printLine printFields
 hit-parts ms = rw add-one (simp (append-assoc))
 
 -- it is short where the numbers are few
-pub hit-few : (ms : List ℕ) → length ms ≤ mostRules → AllBelow (2 ^ 32) ms → length (hitLine ms) < 2 ^ 64
+pub hit-few : (ms : List ℕ) → length ms ≤ mostRules → EachUnder (2 ^ 32) ms → length (hitLine ms) < 2 ^ 64
 unfolding hitLine
 hit-few ms few below =
     let size = line-size hitWord (replicate (length ms + 1) tab) (length ms ∷ ms) (omega arith, below) in

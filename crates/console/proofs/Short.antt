@@ -8,8 +8,8 @@ use mathlib.Core.Option.{Option, none, some}
 use lib.ListN.{length, take, replicate, length-append}
 use lib.Dec.{leb, eqb}
 use borrow.Author.Tests.{le-leb}
-use Rattle.facts.specs.Lists.{run}
-use Rattle.facts.proofs.Counting.{keep-at-most, length-run}
+use Rattle.facts.specs.Lists.{upFrom}
+use Rattle.facts.proofs.Counting.{keep-at-most, length-up}
 use Rattle.facts.proofs.Under.{all-under-iff-at, all-under-iff-has}
 use Rattle.refusals.specs.declared.Refusal.{Refusal}
 use Rattle.refusals.specs.declared.Refusal.the-variants.{HeaderWrong}
@@ -27,7 +27,7 @@ use Rattle.rules.specs.LineAll.{allVerdict}
 use Rattle.rules.proofs.Lists.{fine-iff-good}
 use Rattle.rules.proofs.Listing.{listed-iff-matches}
 use Rattle.text.specs.Words.{newline, tab}
-use Rattle.text.specs.Line.{AllBelow, printLine}
+use Rattle.text.specs.Line.{EachUnder, printLine}
 use Rattle.text.specs.Places.{highest, placeAfter}
 use Rattle.text.specs.Cursors.{wrongAt}
 use Rattle.text.proofs.Places.{within-in}
@@ -43,7 +43,7 @@ use Rattle.console.proofs.Saying.{refused-few}
 
 -- ---- the line of a hit
 
-hit-short : (ms : List ℕ) → length ms ≤ mostRules → AllBelow (10 ^ 3) ms → length (hitLine ms) ≤ mostReply
+hit-short : (ms : List ℕ) → length ms ≤ mostRules → EachUnder (10 ^ 3) ms → length (hitLine ms) ≤ mostReply
 unfolding hitLine printLine
 hit-short ms few below =
     let size = fields-few 2 (replicate (length ms + 1) tab) (length ms ∷ ms) (omega arith, below) in
@@ -56,9 +56,9 @@ module _ (rs h : List ℕ) (fine : listVerdict rs ≡ Fine) where
   few-matching : length (matching rs h) ≤ mostRules
   unfolding matching
   few-matching =
-      omega (arith, keep-at-most (matches rs h) (run 0 (ruleCount rs)), length-run (ruleCount rs) 0, few-rules)
+      omega (arith, keep-at-most (matches rs h) (upFrom 0 (ruleCount rs)), length-up (ruleCount rs) 0, few-rules)
 
-  small-matching : AllBelow (10 ^ 3) (matching rs h)
+  small-matching : EachUnder (10 ^ 3) (matching rs h)
   small-matching =
       let under = all-under-iff-has mostRules (matching rs h) .1
       (λ y m. omega (arith, listed-iff-matches rs h y .0 m .0, few-rules)) in

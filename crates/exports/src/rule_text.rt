@@ -14,7 +14,7 @@ pub extern "C" fn wick_rules_write(rules: &[u32], text: &mut [u8], answer: &mut 
     ensures { λ _. ⌜ RulesWriteAnswered (now (rules .entry)) (now (text .entry)) (now (text .exit))
         (now (answer .exit)) ⌝ }
 {
-    *answer = of_written(rule_file::write::write_rules(rules, text));
+    *answer = of_written(rule_file::write::rules_write(rules, text));
 }
 
 // The value: the number of rules, whose words were written to `rules`.
@@ -23,7 +23,7 @@ pub extern "C" fn wick_rules_read(text: &[u8], rules: &mut [u32], answer: &mut [
     ensures { λ _. ⌜ RulesReadAnswered (now (text .entry)) (now (rules .entry)) (now (rules .exit))
         (now (answer .exit)) ⌝ }
 {
-    *answer = of_read(rule_file::read::read_rules(text, rules));
+    *answer = of_read(rule_file::read::rules_read(text, rules));
 }
 
 fn of_written(said: Written) -> [u64; 8]

@@ -20,7 +20,7 @@ pub extern "C" fn wick_tree_write(
     ensures { λ _. ⌜ TreeWriteAnswered rules (now (nodes .entry)) (now (pool .entry)) (now (text .entry))
         (now (text .exit)) (now (answer .exit)) ⌝ }
 {
-    *answer = of_written(tree_file::write::write_tree(rules as usize, nodes, pool, text));
+    *answer = of_written(tree_file::write::tree_write(rules as usize, nodes, pool, text));
 }
 
 // The values: the numbers of rules, nodes and pool words; the last two were written to `nodes` and `pool`.
@@ -34,7 +34,7 @@ pub extern "C" fn wick_tree_read(
     ensures { λ _. ⌜ TreeReadAnswered (now (text .entry)) (now (nodes .entry)) (now (pool .entry)) (now (nodes .exit))
         (now (pool .exit)) (now (answer .exit)) ⌝ }
 {
-    *answer = of_read(tree_file::read::read_tree(text, nodes, pool));
+    *answer = of_read(tree_file::read::tree_read(text, nodes, pool));
 }
 
 fn of_written(said: Written) -> [u64; 8]

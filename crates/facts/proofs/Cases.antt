@@ -22,15 +22,15 @@ order a b = go (sure (ltb a b)) (sure (ltb b a))
     go (inr p) (inl q) = above (ltb-true b a q)
     go (inr p) (inr q) = same (omega (arith, ltb-false a b p, ltb-false b a q))
 
-pub data Split (a b : ℕ) : Type 0 where
-  atMost : a ≤ b → Split a b
-  over : b < a → Split a b
+pub data WithinOrOver (a b : ℕ) : Type 0 where
+  atMost : a ≤ b → WithinOrOver a b
+  over : b < a → WithinOrOver a b
 
 -- of two numbers the first is at most the second, or over it
-pub split : (a b : ℕ) → Split a b
-split a b = go (sure (leb a b))
+pub within-or-over : (a b : ℕ) → WithinOrOver a b
+within-or-over a b = go (sure (leb a b))
   where
-    go : (leb a b ≡ true) ⊎ (leb a b ≡ false) → Split a b
+    go : (leb a b ≡ true) ⊎ (leb a b ≡ false) → WithinOrOver a b
     go (inl p) = atMost (leb-true a b p)
     go (inr p) = over (leb-false a b p)
 

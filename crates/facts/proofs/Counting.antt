@@ -7,7 +7,7 @@ use mathlib.Core.Bool.{Bool, true, false, cond}
 use mathlib.Core.Path.{_≡_, refl, ap}
 use mathlib.Core.List.{List, [], _∷_}
 use lib.ListN.{length}
-use Rattle.facts.specs.Lists.{run, keep}
+use Rattle.facts.specs.Lists.{upFrom, keep}
 use Rattle.facts.proofs.Steps.{keep-none, keep-in, keep-out}
 
 pub record Counted (p : ℕ → Bool) (all rest : List ℕ) (n : ℕ) : Type 0 where
@@ -43,8 +43,8 @@ keep-at-most p (x ∷ xs) = go (p x) (keep-at-most p xs)
     go true h = omega arith
     go false h = omega arith
 
--- a run of m numbers has m
-pub length-run : (m i : ℕ) → length (run i m) ≡ m
-unfolding run
-length-run zero i = refl
-length-run (suc m) i = ap suc (length-run m (i + 1))
+-- a upFrom of m numbers has m
+pub length-up : (m i : ℕ) → length (upFrom i m) ≡ m
+unfolding upFrom
+length-up zero i = refl
+length-up (suc m) i = ap suc (length-up m (i + 1))

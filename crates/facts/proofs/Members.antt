@@ -1,4 +1,4 @@
--- What stands in a list: in a run, and in what is kept of a list.
+-- What stands in a list: in a upFrom, and in what is kept of a list.
 use Prim.Native.Nat.{ℕ, zero, suc, _+_, _≤_, _<_}
 use native.Mathlib.Omega.{arith}
 use mathlib.Core.Bool.{Bool, true, false, false≢true}
@@ -7,7 +7,7 @@ use mathlib.Core.Logic.{_⊎_, inl, inr, _↔_}
 use mathlib.Core.List.{List, [], _∷_}
 use lib.Dec.{eqb}
 use borrow.Author.Tests.{eqb-true, eq-eqb}
-use Rattle.facts.specs.Lists.{run, keep, has}
+use Rattle.facts.specs.Lists.{upFrom, keep, has}
 use Rattle.facts.proofs.Bools.{clash}
 use Rattle.facts.proofs.Cases.{Order, below, same, above, order}
 
@@ -68,29 +68,29 @@ kept-of-has p (x ∷ xs) y e c = go (p x) refl (λ r. kept-of-has p xs y r c) (h
 pub kept-iff : (p : ℕ → Bool) (l : List ℕ) (y : ℕ) → (has (keep p l) y ≡ true) ↔ ((has l y ≡ true) × (p y ≡ true))
 kept-iff p l y = (λ e. has-of-kept p l y e, λ h. kept-of-has p l y (h .0) (h .1))
 
--- what stands in a run lies between its ends
-pub has-of-run : (m i y : ℕ) → has (run i m) y ≡ true → (i ≤ y) × (y < i + m)
-unfolding run has
-has-of-run zero i y e = absurd (false≢true e)
-has-of-run (suc m) i y e = go (has-cons i (run (i + 1) m) y e) (λ r. has-of-run m (i + 1) y r)
+-- what stands in a upFrom lies between its ends
+pub has-of-up : (m i y : ℕ) → has (upFrom i m) y ≡ true → (i ≤ y) × (y < i + m)
+unfolding upFrom has
+has-of-up zero i y e = absurd (false≢true e)
+has-of-up (suc m) i y e = go (has-cons i (upFrom (i + 1) m) y e) (λ r. has-of-up m (i + 1) y r)
   where
     go :
-        (i ≡ y) ⊎ (has (run (i + 1) m) y ≡ true) → (has (run (i + 1) m) y ≡ true → (i + 1 ≤ y) × (y < i + 1 + m)) →
+        (i ≡ y) ⊎ (has (upFrom (i + 1) m) y ≡ true) → (has (upFrom (i + 1) m) y ≡ true → (i + 1 ≤ y) × (y < i + 1 + m)) →
         (i ≤ y) × (y < i + suc m)
     go (inl q) r = (omega arith, omega arith)
     go (inr q) r = let z = r q in (omega arith, omega arith)
 
 -- what lies between a run's ends stands in it
-pub run-has : (m i y : ℕ) → i ≤ y → y < i + m → has (run i m) y ≡ true
-unfolding run has
-run-has zero i y l u = absurd (omega arith)
-run-has (suc m) i y l u = go (order i y) (λ k. run-has m (i + 1) y k (omega arith))
+pub up-has : (m i y : ℕ) → i ≤ y → y < i + m → has (upFrom i m) y ≡ true
+unfolding upFrom has
+up-has zero i y l u = absurd (omega arith)
+up-has (suc m) i y l u = go (order i y) (λ k. up-has m (i + 1) y k (omega arith))
   where
-    go : Order i y → (i + 1 ≤ y → has (run (i + 1) m) y ≡ true) → has (run i (suc m)) y ≡ true
-    go (same q) r = has-head i (run (i + 1) m) y q
-    go (below k) r = has-tail i (run (i + 1) m) y (r (omega arith))
+    go : Order i y → (i + 1 ≤ y → has (upFrom (i + 1) m) y ≡ true) → has (upFrom i (suc m)) y ≡ true
+    go (same q) r = has-head i (upFrom (i + 1) m) y q
+    go (below k) r = has-tail i (upFrom (i + 1) m) y (r (omega arith))
     go (above k) r = absurd (omega arith)
 
--- a number stands in the run from 0 exactly where it is below the run's length
-pub run-iff : (n y : ℕ) → (has (run 0 n) y ≡ true) ↔ (y < n)
-run-iff n y = (λ e. let h = has-of-run n 0 y e in omega arith, λ l. run-has n 0 y (omega arith) (omega arith))
+-- a number stands in the upFrom from 0 exactly where it is below the run's length
+pub up-iff : (n y : ℕ) → (has (upFrom 0 n) y ≡ true) ↔ (y < n)
+up-iff n y = (λ e. let h = has-of-up n 0 y e in omega arith, λ l. up-has n 0 y (omega arith) (omega arith))

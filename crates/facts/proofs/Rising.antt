@@ -1,4 +1,4 @@
--- Rising lists: a run rises, and so does what is kept of a rising list; nothing in one is below its first number, and
+-- Rising lists: a upFrom rises, and so does what is kept of a rising list; nothing in one is below its first number, and
 -- two with the same members are one.
 use Prim.Native.Nat.{ℕ, zero, suc, _+_, _≤_, _<_}
 use native.Mathlib.Omega.{arith}
@@ -8,10 +8,10 @@ use mathlib.Core.Logic.{_⊎_, inl, inr}
 use mathlib.Core.List.{List, [], _∷_}
 use lib.Dec.{leb}
 use borrow.Author.Tests.{leb-true, le-leb}
-use Rattle.facts.specs.Lists.{run, keep, has, rises}
+use Rattle.facts.specs.Lists.{upFrom, keep, has, rises}
 use Rattle.facts.proofs.Bools.{both, join}
 use Rattle.facts.proofs.Cases.{below, same}
-use Rattle.facts.proofs.Members.{has-cons, has-head, has-tail, kept-iff, run-iff}
+use Rattle.facts.proofs.Members.{has-cons, has-head, has-tail, kept-iff, up-iff}
 
 -- a rising list's head is at least its bound, and its tail rises past the head
 pub rises-head : (a x : ℕ) (xs : List ℕ) → rises a (x ∷ xs) ≡ true → (a ≤ x) × (rises (x + 1) xs ≡ true)
@@ -39,11 +39,11 @@ rises-kept p a (x ∷ xs) e = go (p x) refl (rises-kept p (x + 1) xs (rises-head
     go true t r = rw (t, keep) (rises-cons a x (keep p xs) (rises-head a x xs e .0) r)
     go false t r = rw (t, keep) (rises-lower a (x + 1) (keep p xs) (omega (arith, rises-head a x xs e .0)) r)
 
--- a run rises
-pub rises-run : (m i : ℕ) → rises i (run i m) ≡ true
-unfolding run rises
-rises-run zero i = refl
-rises-run (suc m) i = join (le-leb i i (omega arith)) (rises-run m (i + 1))
+-- a upFrom rises
+pub rises-up : (m i : ℕ) → rises i (upFrom i m) ≡ true
+unfolding upFrom rises
+rises-up zero i = refl
+rises-up (suc m) i = join (le-leb i i (omega arith)) (rises-up m (i + 1))
 
 -- what stands in a rising list is at least its bound
 pub rises-low : (a : ℕ) (l : List ℕ) (y : ℕ) → rises a l ≡ true → has l y ≡ true → a ≤ y
@@ -109,14 +109,14 @@ module _ (p : ℕ → Bool) (n : ℕ) (l : List ℕ) where
   -- of a rising list of numbers below n that has each that passes, the same is kept as of all numbers below n
   pub kept-all :
       rises 0 l ≡ true → ((y : ℕ) → has l y ≡ true → y < n) → ((y : ℕ) → y < n → p y ≡ true → has l y ≡ true) →
-      keep p l ≡ keep p (run 0 n)
+      keep p l ≡ keep p (upFrom 0 n)
   kept-all r b c =
-      rising-ext 0 (keep p l) (keep p (run 0 n)) (rises-kept p 0 l r) (rises-kept p 0 (run 0 n) (rises-run n 0))
-      (λ y e. let t = kept-iff p l y .0 e in kept-iff p (run 0 n) y .1 (run-iff n y .1 (b y (t .0)), t .1))
+      rising-ext 0 (keep p l) (keep p (upFrom 0 n)) (rises-kept p 0 l r) (rises-kept p 0 (upFrom 0 n) (rises-up n 0))
+      (λ y e. let t = kept-iff p l y .0 e in kept-iff p (upFrom 0 n) y .1 (up-iff n y .1 (b y (t .0)), t .1))
       (λ y e.
-      let t = kept-iff p (run 0 n) y .0 e in
-      kept-iff p l y .1 (c y (run-iff n y .0 (t .0)) (t .1), t .1))
+      let t = kept-iff p (upFrom 0 n) y .0 e in
+      kept-iff p l y .1 (c y (up-iff n y .0 (t .0)) (t .1), t .1))
 
   -- a list of which the same is kept as of all numbers below n has each of them that passes
-  pub all-kept : keep p l ≡ keep p (run 0 n) → (y : ℕ) → y < n → p y ≡ true → has l y ≡ true
-  all-kept q y b c = kept-iff p l y .0 (rw q (kept-iff p (run 0 n) y .1 (run-iff n y .1 b, c))) .0
+  pub all-kept : keep p l ≡ keep p (upFrom 0 n) → (y : ℕ) → y < n → p y ≡ true → has l y ≡ true
+  all-kept q y b c = kept-iff p l y .0 (rw q (kept-iff p (upFrom 0 n) y .1 (up-iff n y .1 b, c))) .0

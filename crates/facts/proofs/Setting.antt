@@ -7,7 +7,7 @@ use mathlib.Core.Path.{_≡_, refl, ap, _∙_}
 use mathlib.Core.List.{List, [], _∷_, _++_}
 use lib.ListN.{length, getD, take, drop, set}
 use lib.Seq.{sets, take-suc, take-at, drop-at, length-take-le}
-use Rattle.facts.specs.Lists.{tab, written}
+use Rattle.facts.specs.Lists.{tabulate, written}
 
 -- writing one list behind another is writing the two as one
 pub sets-append : (l : List ℕ) (i : ℕ) (xs ys : List ℕ) → sets l i (xs ++ ys) ≡ sets (sets l i xs) (i + length xs) ys
@@ -34,8 +34,8 @@ pub none-before : (kept l : List ℕ) → length kept ≡ 0 → kept ++ l ≡ l
 none-before kept l e = ap (λ (k : List ℕ). k ++ l) (nil-of kept e)
 
 -- a list of length n is the table of what stands at its places
-pub cells : (n : ℕ) (l : List ℕ) → length l ≡ n → l ≡ tab n (λ i. getD l i 0)
-unfolding tab
+pub cells : (n : ℕ) (l : List ℕ) → length l ≡ n → l ≡ tabulate n (λ i. getD l i 0)
+unfolding tabulate
 cells zero [] e = refl
 cells zero (x ∷ l) e = absurd (omega arith)
 cells (suc n) [] e = absurd (omega arith)

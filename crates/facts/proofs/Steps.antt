@@ -1,4 +1,4 @@
--- One step along a list: what a run has left, what a list has from a place on, and what is kept of a list, by its head.
+-- One step along a list: what a upFrom has left, what a list has from a place on, and what is kept of a list, by its head.
 use Prim.Native.Nat.{ℕ, suc, _+_, _-_, _≤_, _<_}
 use native.Mathlib.Numerals.{add-one}
 use native.Mathlib.Omega.{arith}
@@ -7,17 +7,17 @@ use mathlib.Core.Path.{_≡_}
 use mathlib.Core.List.{List, [], _∷_}
 use lib.ListN.{length, getD, drop, drop-of-length-le}
 use lib.Seq.{drop-cons}
-use Rattle.facts.specs.Lists.{run, keep}
+use Rattle.facts.specs.Lists.{upFrom, keep}
 
--- while i is below n, what is left of a run up to n is i and what is left after it
-pub run-step : (n i : ℕ) → i < n → run i (n - i) ≡ i ∷ run (i + 1) (n - (i + 1))
-unfolding run
-run-step n i l = let e : n - i ≡ suc (n - (i + 1)) = omega arith in rw (e, run)
+-- while i is below n, what is left of a upFrom up to n is i and what is left after it
+pub up-step : (n i : ℕ) → i < n → upFrom i (n - i) ≡ i ∷ upFrom (i + 1) (n - (i + 1))
+unfolding upFrom
+up-step n i l = let e : n - i ≡ suc (n - (i + 1)) = omega arith in rw (e, upFrom)
 
--- from n on, nothing is left of a run up to n
-pub run-end : (n i : ℕ) → n ≤ i → run i (n - i) ≡ []
-unfolding run
-run-end n i l = let e : n - i ≡ 0 = omega arith in rw (e, run)
+-- from n on, nothing is left of a upFrom up to n
+pub up-end : (n i : ℕ) → n ≤ i → upFrom i (n - i) ≡ []
+unfolding upFrom
+up-end n i l = let e : n - i ≡ 0 = omega arith in rw (e, upFrom)
 
 -- while i is below the length, a list has from i on what stands at i and what it has after it
 pub drop-step : (l : List ℕ) (i : ℕ) → i < length l → drop i l ≡ getD l i 0 ∷ drop (i + 1) l

@@ -4,17 +4,17 @@ use native.Mathlib.Nat.{le-of-suc-le-suc, not-suc-le-zero}
 use mathlib.Core.Path.{_≡_, refl, ap}
 use mathlib.Core.List.{List, [], _∷_, map}
 use lib.ListN.{length, getD}
-use Rattle.facts.specs.Lists.{tab}
+use Rattle.facts.specs.Lists.{tabulate}
 
 -- a table of n numbers has n
-pub length-tab : (n : ℕ) (g : ℕ → ℕ) → length (tab n g) ≡ n
-unfolding tab
-length-tab zero g = refl
-length-tab (suc n) g = ap suc (length-tab n (λ i. g (suc i)))
+pub length-tabulate : (n : ℕ) (g : ℕ → ℕ) → length (tabulate n g) ≡ n
+unfolding tabulate
+length-tabulate zero g = refl
+length-tabulate (suc n) g = ap suc (length-tabulate n (λ i. g (suc i)))
 
 -- at a place below n stands what the function gives there
-pub getD-tab : (n : ℕ) (g : ℕ → ℕ) (i : ℕ) → i < n → getD (tab n g) i 0 ≡ g i
-unfolding tab
+pub getD-tab : (n : ℕ) (g : ℕ → ℕ) (i : ℕ) → i < n → getD (tabulate n g) i 0 ≡ g i
+unfolding tabulate
 getD-tab zero g i h = absurd (not-suc-le-zero h)
 getD-tab (suc n) g zero h = refl
 getD-tab (suc n) g (suc i) h = getD-tab n (λ k. g (suc k)) i (le-of-suc-le-suc h)

@@ -1,6 +1,6 @@
 -- Lists of numbers. Definitions only.
---   run i m        the m numbers from i on: i, i + 1, ..
---   tab n g        the n numbers g 0, g 1, ..
+--   upFrom i m        the m numbers from i on: i, i + 1, ..
+--   tabulate n g        the n numbers g 0, g 1, ..
 --   keep p l       the numbers of l of which p holds, in l's order, each as often as it stands there
 --   has l y        y stands in l
 --   rises a l      l rises strictly, and its first number is at least a; true of the empty list
@@ -12,13 +12,13 @@ use mathlib.Core.List.{List, [], _∷_, _++_}
 use lib.ListN.{length, drop}
 use lib.Dec.{leb, ltb, eqb}
 
-unfoldable pub run : ℕ → ℕ → List ℕ
-run i zero = []
-run i (suc m) = i ∷ run (i + 1) m
+unfoldable pub upFrom : ℕ → ℕ → List ℕ
+upFrom i zero = []
+upFrom i (suc m) = i ∷ upFrom (i + 1) m
 
-unfoldable pub tab : ℕ → (ℕ → ℕ) → List ℕ
-tab zero g = []
-tab (suc n) g = g 0 ∷ tab n (λ i. g (suc i))
+unfoldable pub tabulate : ℕ → (ℕ → ℕ) → List ℕ
+tabulate zero g = []
+tabulate (suc n) g = g 0 ∷ tabulate n (λ i. g (suc i))
 
 unfoldable pub keep : (ℕ → Bool) → List ℕ → List ℕ
 keep p [] = []

@@ -8,9 +8,9 @@ use mathlib.Core.Logic.{_↔_}
 use mathlib.Core.List.{List}
 use lib.ListN.{length, getD}
 use Rattle.facts.specs.Below.{allBelow}
-use Rattle.facts.specs.Lists.{tab}
+use Rattle.facts.specs.Lists.{tabulate}
 use Rattle.facts.proofs.Below.{all-below-at, all-below-of}
-use Rattle.facts.proofs.Tables.{length-tab, getD-tab}
+use Rattle.facts.proofs.Tables.{length-tabulate, getD-tab}
 use Rattle.fields.specs.Ranges.{rangesMeet}
 use Rattle.fields.specs.Boxes.{lowOf, highOf, Inside, Full, meets}
 use Rattle.fields.proofs.Ranges.{ranges-meet-iff}
@@ -32,7 +32,7 @@ overlap-iff n a b = (
 
 -- the point of the greater lows
 corner : ℕ → List (List ℕ) → List (List ℕ) → List ℕ
-corner n a b = tab n (λ f. max (lowOf a f) (lowOf b f))
+corner n a b = tabulate n (λ f. max (lowOf a f) (lowOf b f))
 
 module _ (n : ℕ) (a b : List (List ℕ)) (fullA : Full n a) (fullB : Full n b) (o : Overlap n a b) where
   at : (f : ℕ) → f < n → getD (corner n a b) f 0 ≡ max (lowOf a f) (lowOf b f)
@@ -61,7 +61,7 @@ meets-iff-common-point n a b fullA fullB = (
       let o = overlap-iff n a b .0 e in
       record {
         point = corner n a b;
-        fields = length-tab n (λ f. max (lowOf a f) (lowOf b f));
+        fields = length-tabulate n (λ f. max (lowOf a f) (lowOf b f));
         in-first = corner-in-a n a b fullA fullB o;
         in-second = corner-in-b n a b fullA fullB o;
       },

@@ -9,7 +9,7 @@ use lib.ListN.{length, getD, List·getD-eq-default}
 use lib.Dec.{leb, ltb}
 use borrow.Author.Tests.{leb-true, le-leb, lt-leb, ltb-true, lt-ltb}
 use Rattle.facts.proofs.Bools.{both, join, clash, fails}
-use Rattle.facts.proofs.Cases.{Split, atMost, over, split}
+use Rattle.facts.proofs.Cases.{WithinOrOver, atMost, over, within-or-over}
 use Rattle.fields.specs.Boxes.{lowOf, highOf}
 use Rattle.fields.specs.Cuts.{divides, leftOf, rightOf, leftPart, rightPart}
 
@@ -31,9 +31,9 @@ module _ (b : List (List ℕ)) (f v : ℕ) where
 
   -- a field in which a box is divided is one of the box's
   pub divided-there : {n : ℕ} → length b ≡ n → divides b f v ≡ true → f < n
-  divided-there {n} size e = rw (← size) (go (split (length b) f))
+  divided-there {n} size e = rw (← size) (go (within-or-over (length b) f))
     where
-      go : Split (length b) f → f < length b
+      go : WithinOrOver (length b) f → f < length b
       go (atMost l) = clash e (sym (past-not-divided l))
       go (over l) = l
 

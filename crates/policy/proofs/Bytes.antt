@@ -7,16 +7,16 @@ use mathlib.Core.List.{List}
 use mathlib.Core.Option.{none, some}
 use lib.ListN.{length, take}
 use lib.Seq.{length-take-le, take-all}
-use Rattle.facts.proofs.Cases.{Split, split, atMost, over}
+use Rattle.facts.proofs.Cases.{WithinOrOver, within-or-over, atMost, over}
 use Rattle.policy.specs.declared.file.File.{File}
 use Rattle.policy.specs.declared.file.File.the-variants.{NotRead, Bytes}
 use Rattle.policy.specs.Files.{textIn}
 
 -- the first n bytes are as many of them as are there
 pub take-within : (n : ℕ) (bytes : List ℕ) → take (min n (length bytes)) bytes ≡ take n bytes
-take-within n bytes = go (split n (length bytes))
+take-within n bytes = go (within-or-over n (length bytes))
   where
-    go : Split n (length bytes) → take (min n (length bytes)) bytes ≡ take n bytes
+    go : WithinOrOver n (length bytes) → take (min n (length bytes)) bytes ≡ take n bytes
     go (atMost l) = ap (λ (k : ℕ). take k bytes) (min-eq-left l)
     go (over l) =
         take-all (min n (length bytes)) bytes (omega (arith, min-eq-right {n = length bytes} {m = n} (omega arith))) ∙

@@ -3,7 +3,7 @@ use crate::file::File;
 use crate::file::within;
 use refusals::Refusal;
 use rule_file::read::Read;
-use rule_file::read::read_rules;
+use rule_file::read::rules_read;
 use rules::words::RULE_WORDS;
 ghost use mathlib.Core.Option.{some};
 ghost use Rattle.policy.specs.Files.{textIn};
@@ -31,7 +31,7 @@ pub fn take_list(file: File, buffer: &[u8], rules: &mut [u32]) -> Listed
 fn list_of(text: &[u8], rules: &mut [u32]) -> Listed
     ensures { λ r. ⌜ ListTaken (some (now (text .entry))) (now (rules .entry)) r (now (rules .exit)) ⌝ }
 {
-    match read_rules(text, rules) {
+    match rules_read(text, rules) {
         Read::Refused(why) => Listed::Refused(why),
         Read::Rules { rules: count } => Listed::Words {
             words: count * RULE_WORDS,

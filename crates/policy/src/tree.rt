@@ -3,7 +3,7 @@ use crate::file::File;
 use crate::file::within;
 use refusals::Refusal;
 use tree_file::read::Read;
-use tree_file::read::read_tree;
+use tree_file::read::tree_read;
 use trees::words::NODE_WORDS;
 ghost use mathlib.Core.Option.{some};
 ghost use Rattle.policy.specs.Files.{textIn};
@@ -34,7 +34,7 @@ fn tree_of(text: &[u8], nodes: &mut [u32], pool: &mut [u32]) -> Taken
     ensures { λ r. ⌜ TreeTaken (some (now (text .entry))) (now (nodes .entry)) (now (pool .entry)) r
         (now (nodes .exit)) (now (pool .exit)) ⌝ }
 {
-    match read_tree(text, nodes, pool) {
+    match tree_read(text, nodes, pool) {
         Read::Refused(why) => Taken::Refused(why),
         Read::Tree {
             rules: _,

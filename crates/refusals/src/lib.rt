@@ -1,6 +1,6 @@
 // Why a call was refused. `Refusal` has a variant for each refusal number of the scope, named after what is wrong, and
 // `Verdict` is what one check says. `number_of`, `place_of` and `extra_of` give the scope's numbers; they are the only
-// code that has them. Rests on nothing.
+// code that has them. Rests on facts.
 ghost use mathlib.Core.Path.{_≡_};
 ghost use Rattle.refusals.specs.Table.{numberOf, placeOf, extraOf};
 

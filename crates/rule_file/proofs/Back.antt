@@ -12,7 +12,7 @@ use borrow.Author.Tests.{lt-ltb, le-ltb, le-leb, eq-eqb}
 use Rattle.refusals.specs.declared.Verdict.the-variants.{Fine}
 use Rattle.text.specs.Words.{rulesWord, ruleWord, endWord, oneTab, ruleMarks}
 use Rattle.text.specs.Numbers.{isDigit}
-use Rattle.text.specs.Line.{readLine, printLine, AllBelow}
+use Rattle.text.specs.Line.{readLine, printLine, EachUnder}
 use Rattle.text.specs.Text.{good, run}
 use Rattle.text.proofs.Below.{below-drop, below-take}
 use Rattle.text.proofs.Lines.{line-back}
@@ -37,7 +37,7 @@ one-back w n h = line-back w oneTab (n ∷ []) refl refl (h, tt)
 
 -- the line of a rule reads back
 line-rule :
-    (i : ℕ) (r : List ℕ) → i < 2 ^ 32 → AllBelow (2 ^ 32) r →
+    (i : ℕ) (r : List ℕ) → i < 2 ^ 32 → EachUnder (2 ^ 32) r →
     readLine ruleWord ruleMarks (ruleLine i r) ≡ some (ruleValues i r)
 unfolding isDigit
 line-rule i r h b = line-back ruleWord ruleMarks (ruleValues i r) refl (values-length i r) (values-below i r h b)
@@ -46,11 +46,11 @@ line-rule i r h b = line-back ruleWord ruleMarks (ruleValues i r) refl (values-l
 abbrev reached : ℕ → List ℕ → ℕ → State
 reached n ws i = text.rules n i (take (i * ruleWords) ws)
 
-module _ (ws : List ℕ) (g : GoodList ws) (b : AllBelow (2 ^ 32) ws) where
+module _ (ws : List ℕ) (g : GoodList ws) (b : EachUnder (2 ^ 32) ws) where
   there : (i : ℕ) → i < ruleCount ws → i * ruleWords + ruleWords ≤ length ws
   there i h = omega arith
 
-  at-below : (i : ℕ) → AllBelow (2 ^ 32) (ruleAt ws i)
+  at-below : (i : ℕ) → EachUnder (2 ^ 32) (ruleAt ws i)
   at-below i = below-take (2 ^ 32) ruleWords (drop (i * ruleWords) ws) (below-drop (2 ^ 32) (i * ruleWords) ws b)
 
   head-step : step start (headLine (ruleCount ws)) ≡ some (reached (ruleCount ws) ws 0)
@@ -92,7 +92,7 @@ module _ (ws : List ℕ) (g : GoodList ws) (b : AllBelow (2 ^ 32) ws) where
 
 -- what is written of a good list of words of 32 bits reads back as the list
 pub read-of-written :
-    (ws : List ℕ) → listVerdict ws ≡ Fine → AllBelow (2 ^ 32) ws → rulesIn (rulesText ws) ≡ good ws
+    (ws : List ℕ) → listVerdict ws ≡ Fine → EachUnder (2 ^ 32) ws → rulesIn (rulesText ws) ≡ good ws
 unfolding rulesIn rulesText run
 read-of-written ws e b =
     let ls : List (List ℕ) = fileLines (ruleCount ws) ws in

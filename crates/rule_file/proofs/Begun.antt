@@ -9,11 +9,11 @@ use lib.Dec.{leb}
 use lib.ListN.{length, getD, length-append}
 use borrow.Author.Count.{below-more}
 use borrow.Author.Tests.{leb-true}
-use Rattle.facts.specs.Lists.{tab}
+use Rattle.facts.specs.Lists.{tabulate}
 use Rattle.facts.proofs.Setting.{cells}
 use Rattle.refusals.specs.declared.Verdict.the-variants.{Fine}
 use Rattle.text.specs.Words.{rulesWord, ruleWord, oneTab, ruleMarks}
-use Rattle.text.specs.Line.{readLine, printLine, AllBelow}
+use Rattle.text.specs.Line.{readLine, printLine, EachUnder}
 use Rattle.text.specs.Text.{unlines}
 use Rattle.text.proofs.Below.{below-append}
 use Rattle.text.proofs.Lines.{Line, line-exact, none-some}
@@ -35,14 +35,14 @@ pub record Begun (n i : ℕ) (ws t : List ℕ) : Type 0 where
   pub size : length ws ≡ i * ruleWords
   pub few : n ≤ mostRules
   pub most : i ≤ n
-  pub below : AllBelow (2 ^ 32) ws
+  pub below : EachUnder (2 ^ 32) ws
   pub each : (j : ℕ) → j < i → rules.good (ruleAt ws j) 0 ≡ true
 
 -- a text that led past the end line, with the words ws
 pub record Ended (ws t : List ℕ) : Type 0 where
   pub text : rulesText ws ≡ t
   pub fine : listVerdict ws ≡ Fine
-  pub below : AllBelow (2 ^ 32) ws
+  pub below : EachUnder (2 ^ 32) ws
 
 -- what a text t that led to a state is
 abbrev pub LedTo : State → List ℕ → Type 0
@@ -52,7 +52,7 @@ LedTo (over ws) t = Ended ws t
 
 -- a line of one number is written with that number
 pub one-value : (w l v : List ℕ) → Line w oneTab l v → l ≡ printLine w oneTab (getD v 0 0 ∷ [])
-unfolding tab
+unfolding tabulate
 one-value w l v f = f .text ∙ ap (printLine w oneTab) (cells 1 v (f .count))
 
 -- ---- the first line

@@ -19,7 +19,7 @@ use Rattle.refusals.proofs.Giving.{success-giving}
 use Rattle.rules.specs.Words.{ruleWords, ruleCount}
 use Rattle.rules.specs.Good.{listVerdict}
 use Rattle.rules.proofs.Lists.{fine-iff-good}
-use Rattle.text.specs.Line.{AllBelow}
+use Rattle.text.specs.Line.{EachUnder}
 use Rattle.text.specs.Text.{Reading, good, refused, split, linesOf}
 use Rattle.rule_file.specs.declared.read.Read.the-variants as read
 use Rattle.rule_file.specs.declared.write.Written.the-variants as write
@@ -73,7 +73,7 @@ module _ {ws before after : List ℕ} {n : ℕ} (w : RulesWritten ws before (wri
 
   -- what was written reads back as the same words
   pub reads-back :
-      AllBelow (2 ^ 32) ws → (found : List ℕ) → length ws ≤ length found →
+      EachUnder (2 ^ 32) ws → (found : List ℕ) → length ws ≤ length found →
       (readRules (take n after) (length found) ≡ success (ruleCount ws ∷ [])) ×
       (readRulesWords (take n after) found ≡ written ws found)
   reads-back b found room = reads-well (take n after) found ws (rw (wrote-text .0) (read-of-written ws fine b)) room

@@ -10,7 +10,7 @@ use lib.ListN.{getD}
 use borrow.Author.Tests.{ltb-true, ltb-false, eqb-true}
 use Rattle.refusals.specs.declared.Verdict.the-variants.{Fine}
 use Rattle.text.specs.Words.{ruleWord, rulesWord, endWord, oneTab, ruleMarks}
-use Rattle.text.specs.Line.{readLine, printLine, AllBelow}
+use Rattle.text.specs.Line.{readLine, printLine, EachUnder}
 use Rattle.text.specs.Text.{Text, whole, split, unlines, good, readAll}
 use Rattle.text.proofs.Lines.{Line, line-exact, none-some}
 use Rattle.text.proofs.Texts.{bytes, split-exact, unlines-more}
@@ -97,5 +97,5 @@ pub written-of-read : (s ws : List ℕ) → rulesIn s ≡ good ws → (rulesText
 written-of-read s ws h = let r = from-read s ws h in (r .text, r .fine)
 
 -- the words of a text that reads well have 32 bits
-pub read-below : (s ws : List ℕ) → rulesIn s ≡ good ws → AllBelow (2 ^ 32) ws
+pub read-below : (s ws : List ℕ) → rulesIn s ≡ good ws → EachUnder (2 ^ 32) ws
 read-below s ws h = from-read s ws h .below

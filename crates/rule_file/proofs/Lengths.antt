@@ -6,7 +6,7 @@ use mathlib.Core.Path.{_≡_, refl, ap}
 use lib.ListN.{length, drop, length-append}
 use Rattle.refusals.specs.declared.Verdict.the-variants.{Fine}
 use Rattle.text.specs.Words.{rulesWord, ruleWord, endWord, oneTab, ruleMarks}
-use Rattle.text.specs.Line.{printLine, AllBelow}
+use Rattle.text.specs.Line.{printLine, EachUnder}
 use Rattle.text.specs.Text.{unlines}
 use Rattle.text.proofs.Below.{below-drop, below-take}
 use Rattle.text.proofs.Sizes.{numberMost, line-size}
@@ -21,12 +21,12 @@ use Rattle.rule_file.proofs.Writing.{text-parts}
 
 -- a line with its newline takes no more than its word, so many bytes for each number, and one
 line-length :
-    (w ms vs : List ℕ) → AllBelow (2 ^ 32) vs →
+    (w ms vs : List ℕ) → EachUnder (2 ^ 32) vs →
     length (ended (printLine w ms vs)) ≤ length w + length vs * numberMost + 1
 line-length w ms vs b = simp length-append (omega (arith, line-size w ms vs b))
 
 rules-length :
-    (ws : List ℕ) (i : ℕ) → i ≤ mostRules → AllBelow (2 ^ 32) ws → length (unlines (ruleLines ws i)) ≤ i * 2 ^ 38
+    (ws : List ℕ) (i : ℕ) → i ≤ mostRules → EachUnder (2 ^ 32) ws → length (unlines (ruleLines ws i)) ≤ i * 2 ^ 38
 unfolding ruleLines ruleValues unlines
 rules-length ws zero h b = omega arith
 rules-length ws (suc i) h b =
@@ -38,7 +38,7 @@ rules-length ws (suc i) h b =
     omega (arith, ap length e, n, one, rules-length ws i (omega arith) b)
 
 -- the text of a good list of words of 32 bits has fewer than 2 ^ 63 bytes
-pub text-fits : (ws : List ℕ) → listVerdict ws ≡ Fine → AllBelow (2 ^ 32) ws → length (rulesText ws) < 2 ^ 63
+pub text-fits : (ws : List ℕ) → listVerdict ws ≡ Fine → EachUnder (2 ^ 32) ws → length (rulesText ws) < 2 ^ 63
 text-fits ws e b =
     let n : ℕ = ruleCount ws in
     let g = fine-iff-good ws .0 e in

@@ -7,11 +7,11 @@ use mathlib.Core.Path.{_≡_, refl, sym, ap, _∙_}
 use lib.ListN.{length, getD}
 use lib.Dec.{eqb}
 use borrow.Author.Tests.{eqb-true, eq-eqb, ne-eqb}
-use Rattle.facts.specs.Lists.{tab}
+use Rattle.facts.specs.Lists.{tabulate}
 use Rattle.facts.proofs.Bools.{both, join}
 use Rattle.facts.proofs.Setting.{cells}
 use Rattle.text.specs.Words.{mostFields}
-use Rattle.text.specs.Line.{AllBelow}
+use Rattle.text.specs.Line.{EachUnder}
 use Rattle.text.specs.Addresses.{octetsOf}
 use Rattle.text.proofs.Addresses.{octets-of-fit, octets-back, octets-exact, address-below}
 use Rattle.text.proofs.Below.{below-at, below-append}
@@ -81,7 +81,7 @@ numbered v n a b =
 
 -- the numbers of a line that pass the test are those of the rule that they give
 pub values-exact : (i : ℕ) (v : List ℕ) → length v ≡ mostFields → Tested i v → v ≡ ruleValues i (ruleOf v)
-unfolding ruleValues ruleOf tab
+unfolding ruleValues ruleOf tabulate
 values-exact i v l t =
     let s : List ℕ = getD v 1 0 ∷ getD v 2 0 ∷ getD v 3 0 ∷ getD v 4 0 ∷ [] in
     let d : List ℕ = getD v 6 0 ∷ getD v 7 0 ∷ getD v 8 0 ∷ getD v 9 0 ∷ [] in
@@ -92,8 +92,8 @@ values-exact i v l t =
     ap (λ (x : List ℕ). numbered v i (octetsOf (sourceOf v)) x) (sym destination)
 
 -- the words that the numbers of a rule's line give are the rule's
-pub rule-back : (i : ℕ) (r : List ℕ) → length r ≡ ruleWords → AllBelow (2 ^ 32) r → ruleOf (ruleValues i r) ≡ r
-unfolding ruleValues ruleOf tab
+pub rule-back : (i : ℕ) (r : List ℕ) → length r ≡ ruleWords → EachUnder (2 ^ 32) r → ruleOf (ruleValues i r) ≡ r
+unfolding ruleValues ruleOf tabulate
 rule-back i r l b =
     let source = octets-back (getD r 0 0) (below-at (2 ^ 32) r 0 (omega arith) b) in
     let destination = octets-back (getD r 2 0) (below-at (2 ^ 32) r 2 (omega arith) b) in
@@ -101,7 +101,7 @@ rule-back i r l b =
 
 -- the numbers of a good rule's line pass the test
 pub test-back :
-    (i : ℕ) (r : List ℕ) → length r ≡ ruleWords → AllBelow (2 ^ 32) r → rules.good r 0 ≡ true →
+    (i : ℕ) (r : List ℕ) → length r ≡ ruleWords → EachUnder (2 ^ 32) r → rules.good r 0 ≡ true →
     ruleTest i (ruleValues i r) ≡ true
 unfolding ruleTest ruleValues
 test-back i r l b g =
@@ -110,11 +110,11 @@ test-back i r l b g =
     join (join (join (eq-eqb i i refl) source) destination)
     (ap (λ (x : List ℕ). rules.good x 0) (rule-back i r l b) ∙ g)
 
-octets-below : (x : ℕ) → x < 2 ^ 32 → AllBelow (2 ^ 32) (octetsOf x)
+octets-below : (x : ℕ) → x < 2 ^ 32 → EachUnder (2 ^ 32) (octetsOf x)
 octets-below x l = (omega arith, (omega arith, (omega arith, (omega arith, tt))))
 
 -- the numbers of a rule's line have 32 bits
-pub values-below : (i : ℕ) (r : List ℕ) → i < 2 ^ 32 → AllBelow (2 ^ 32) r → AllBelow (2 ^ 32) (ruleValues i r)
+pub values-below : (i : ℕ) (r : List ℕ) → i < 2 ^ 32 → EachUnder (2 ^ 32) r → EachUnder (2 ^ 32) (ruleValues i r)
 unfolding ruleValues
 values-below i r h b =
     let at : (k : ℕ) → getD r k 0 < 2 ^ 32 = λ k. below-at (2 ^ 32) r k (omega arith) b in
@@ -127,7 +127,7 @@ values-below i r h b =
     (at 3, (at 4, (at 5, (at 6, (at 7, (at 8, (at 9, tt))))))))
 
 -- the words of a line whose numbers pass the test have 32 bits
-pub rule-below : (i : ℕ) (v : List ℕ) → AllBelow (2 ^ 32) v → Tested i v → AllBelow (2 ^ 32) (ruleOf v)
+pub rule-below : (i : ℕ) (v : List ℕ) → EachUnder (2 ^ 32) v → Tested i v → EachUnder (2 ^ 32) (ruleOf v)
 unfolding ruleOf
 rule-below i v b t =
     let at : (k : ℕ) → getD v k 0 < 2 ^ 32 = λ k. below-at (2 ^ 32) v k (omega arith) b in

@@ -13,7 +13,7 @@ use Rattle.refusals.specs.declared.Verdict.the-variants as verdict
 use Rattle.refusals.specs.Paper.{success}
 use Rattle.refusals.proofs.Order.{then-fine, then-refused, room-short, room-fine-iff}
 use Rattle.refusals.proofs.Order.{giving-refused, giving-fine, leaving-refused, leaving-fine}
-use Rattle.text.specs.Line.{AllBelow}
+use Rattle.text.specs.Line.{EachUnder}
 use Rattle.text.specs.Puts.{Put}
 use Rattle.text.proofs.Places.{after-few}
 use Rattle.rules.specs.Good.{listVerdict}
@@ -36,7 +36,7 @@ pub list-refused :
 unfolding writeVerdict
 list-refused e = refused-as-found refl (then-refused _ e)
 
-module _ (ws : List ℕ) (fine : listVerdict ws ≡ verdict.Fine) (below : AllBelow (2 ^ 32) ws) where
+module _ (ws : List ℕ) (fine : listVerdict ws ≡ verdict.Fine) (below : EachUnder (2 ^ 32) ws) where
   -- the place behind the text is its length
   pub text-place : {old new : List ℕ} {n : ℕ} → Put old 0 (rulesText ws) new n → n ≡ length (rulesText ws)
   text-place p =

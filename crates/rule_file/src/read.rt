@@ -33,7 +33,7 @@ pub enum Head {
 
 // The words of the rules that a text holds, from the front of `rules` on; the rest of `rules` is as found. The text is
 // judged whole before the room is, and a refusal writes nothing.
-pub fn read_rules(text: &[u8], rules: &mut [u32]) -> Read
+pub fn rules_read(text: &[u8], rules: &mut [u32]) -> Read
     ensures { λ r. ⌜ RulesRead (now (text .entry)) (now (rules .entry)) r (now (rules .exit)) ⌝ }
 {
     match read_pass(text, &mut rules[..0]) {

@@ -28,7 +28,7 @@ pub enum Written {
 }
 
 // A list as text, from the front of `text` on; the rest of `text` is as found. A refusal writes nothing.
-pub fn write_rules(rules: &[u32], text: &mut [u8]) -> Written
+pub fn rules_write(rules: &[u32], text: &mut [u8]) -> Written
     ensures { λ r. ⌜ RulesWritten (now (rules .entry)) (now (text .entry)) r (now (text .exit)) ⌝ }
 {
     match list_verdict(rules) {

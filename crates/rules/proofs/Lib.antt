@@ -2,7 +2,7 @@
 -- promises are exact.
 pub mod Lists
 pub mod Meaning
-pub mod There
+pub mod AnyWords
 pub mod Lacks
 pub mod Listing
 pub mod Searches

@@ -5,10 +5,10 @@ use mathlib.Core.Bool.{Bool, true, false, false≢true}
 use mathlib.Core.Path.{_≡_, refl, sym, ap, _∙_}
 use mathlib.Core.Logic.{_↔_}
 use mathlib.Core.List.{List, [], _∷_}
-use Rattle.facts.specs.Lists.{run, keep, has, rises}
+use Rattle.facts.specs.Lists.{upFrom, keep, has, rises}
 use Rattle.facts.proofs.Bools.{fails}
-use Rattle.facts.proofs.Members.{has-head, kept-iff, run-iff}
-use Rattle.facts.proofs.Rising.{rises-head, rises-cons, rises-kept, rises-run, rises-low}
+use Rattle.facts.proofs.Members.{has-head, kept-iff, up-iff}
+use Rattle.facts.proofs.Rising.{rises-head, rises-cons, rises-kept, rises-up, rises-low}
 use Rattle.rules.specs.Words.{ruleCount}
 use Rattle.rules.specs.Matching.{matches, matching}
 
@@ -17,14 +17,14 @@ module _ (rs h : List ℕ) where
   pub listed-iff-matches : (r : ℕ) → (has (matching rs h) r ≡ true) ↔ ((r < ruleCount rs) × (matches rs h r ≡ true))
   unfolding matching
   listed-iff-matches r = (
-    λ e. let t = kept-iff (matches rs h) (run 0 (ruleCount rs)) r .0 e in (run-iff (ruleCount rs) r .0 (t .0), t .1),
-    λ m. kept-iff (matches rs h) (run 0 (ruleCount rs)) r .1 (run-iff (ruleCount rs) r .1 (m .0), m .1),
+    λ e. let t = kept-iff (matches rs h) (upFrom 0 (ruleCount rs)) r .0 e in (up-iff (ruleCount rs) r .0 (t .0), t .1),
+    λ m. kept-iff (matches rs h) (upFrom 0 (ruleCount rs)) r .1 (up-iff (ruleCount rs) r .1 (m .0), m .1),
   )
 
   -- the list rises, so that each number stands in it once
   pub matching-rises : rises 0 (matching rs h) ≡ true
   unfolding matching
-  matching-rises = rises-kept (matches rs h) 0 (run 0 (ruleCount rs)) (rises-run (ruleCount rs) 0)
+  matching-rises = rises-kept (matches rs h) 0 (upFrom 0 (ruleCount rs)) (rises-up (ruleCount rs) 0)
 
   -- the lowest rule that matches: it does, and none before it does
   pub record Lowest (r : ℕ) : Type 0 where

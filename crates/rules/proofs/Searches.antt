@@ -4,8 +4,8 @@ use native.Mathlib.Omega.{arith}
 use mathlib.Core.Path.{_≡_, refl, sym, ap, _∙_}
 use mathlib.Core.List.{List, [], _∷_}
 use lib.ListN.{length}
-use Rattle.facts.specs.Lists.{run, written}
-use Rattle.facts.proofs.Counting.{keep-at-most, length-run}
+use Rattle.facts.specs.Lists.{upFrom, written}
+use Rattle.facts.proofs.Counting.{keep-at-most, length-up}
 use Rattle.refusals.specs.declared.Refusal.{Refusal}
 use Rattle.refusals.specs.declared.Verdict.the-variants.{Fine, Refused}
 use Rattle.refusals.specs.Paper.{success}
@@ -61,7 +61,7 @@ module _ (rs h : List ℕ) where
   -- no more rules match than there are
   pub matching-at-most : length (matching rs h) ≤ ruleCount rs
   unfolding matching
-  matching-at-most = rw (length-run (ruleCount rs) 0) at (keep-at-most (matches rs h) (run 0 (ruleCount rs)))
+  matching-at-most = rw (length-up (ruleCount rs) 0) at (keep-at-most (matches rs h) (upFrom 0 (ruleCount rs)))
 
   -- a refusal is the answer, and the words are as found
   pub all-refused :

@@ -11,7 +11,7 @@ use mathlib.Core.List.{List, [], _∷_, map}
 use lib.ListN.{length, getD}
 use lib.Dec.{eqb}
 use Rattle.facts.specs.Below.{allBelow}
-use Rattle.facts.specs.Lists.{run, keep}
+use Rattle.facts.specs.Lists.{upFrom, keep}
 use Rattle.fields.specs.Words.{addressBits, fieldCount}
 use Rattle.fields.specs.Prefixes.{prefixAgrees, prefixEnds}
 use Rattle.fields.specs.Ranges.{rangeHolds}
@@ -28,7 +28,7 @@ unfoldable pub ruleMatches : List ℕ → List ℕ → ℕ → Bool
 ruleMatches rs h r = ruleThere rs r && (eqb (length h) fieldCount && matches rs h r)
 
 unfoldable pub matching : List ℕ → List ℕ → List ℕ
-matching rs h = keep (matches rs h) (run 0 (ruleCount rs))
+matching rs h = keep (matches rs h) (upFrom 0 (ruleCount rs))
 
 abbrev pub fieldEnds : Form → List ℕ → ℕ → List ℕ
 fieldEnds (prefix j) rs r = prefixEnds addressBits (wordOf rs r j) (wordOf rs r (j + 1))

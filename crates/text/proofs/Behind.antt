@@ -5,7 +5,7 @@ use mathlib.Core.Path.{_≡_, refl, sym, ap, _∙_}
 use mathlib.Core.List.{List, [], _∷_, _++_}
 use lib.ListN.{length, getD, drop, set, replicate, length-append, length-drop, drop-of-length-le}
 use lib.Seq.{length-sets, drop-drop, drop-append-seam}
-use Rattle.facts.proofs.Cases.{Split, split, atMost, over}
+use Rattle.facts.proofs.Cases.{WithinOrOver, within-or-over, atMost, over}
 use Rattle.facts.proofs.Steps.{drop-step, drop-end}
 use Rattle.facts.proofs.Setting.{sets-append}
 use Rattle.refusals.specs.declared.Refusal.{Refusal}
@@ -21,12 +21,12 @@ use Rattle.text.proofs.Parts.{behind-exact}
 -- where what is left begins, it is left
 pub left-at : (s front rest : List ℕ) (at : ℕ) → drop at s ≡ front ++ rest → drop (placeIn s rest) s ≡ rest
 unfolding placeIn
-left-at s front rest at e = go (split at (length s))
+left-at s front rest at e = go (within-or-over at (length s))
   where
     sizes : length s - at ≡ length front + length rest
     sizes = sym (length-drop at s) ∙ ap length e ∙ length-append front rest
 
-    go : Split at (length s) → drop (length s - length rest) s ≡ rest
+    go : WithinOrOver at (length s) → drop (length s - length rest) s ≡ rest
     go (atMost l) =
         let p : length s - length rest ≡ at + length front = omega (arith, sizes) in
         rw p (sym (drop-drop (length front) at s) ∙ ap (drop (length front)) e ∙ drop-append-seam front rest)

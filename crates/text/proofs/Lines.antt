@@ -13,7 +13,7 @@ use lib.ListN.{length, length-append}
 use Rattle.facts.proofs.Bools.{clash}
 use Rattle.text.specs.Numbers.{Got, got, bad, digitsOf, isDigit}
 use Rattle.text.specs.Line.{thenRead, readWord, readBehind, fieldsFrom, wholly, readLine}
-use Rattle.text.specs.Line.{printFields, printLine, AllBelow, parting}
+use Rattle.text.specs.Line.{printFields, printLine, EachUnder, parting}
 use Rattle.text.proofs.Numbers.{bad-got, Ends}
 use Rattle.text.proofs.Below.{below-append}
 pub use Rattle.text.proofs.Parts.{word-back, word-exact, behind-back, behind-exact}
@@ -22,16 +22,16 @@ pub use Rattle.text.proofs.Parts.{fields-snoc, fields-then, fields-fron
 pub record Fields (ns ms us s vs r : List ℕ) : Type 0 where
   pub text : printFields ns us ++ s ≡ printFields (ns ++ ms) vs ++ r
   pub count : length vs ≡ length us + length ms
-  pub below : AllBelow (2 ^ 32) vs
+  pub below : EachUnder (2 ^ 32) vs
 
 -- what `fields-exact` says
 abbrev Exact : List ℕ → List ℕ → List ℕ → List ℕ → List ℕ → List ℕ → Type 0
 Exact ns ms us s vs r =
-    length ns ≡ length us → AllBelow (2 ^ 32) us → fieldsFrom us ms s ≡ got vs r → Fields ns ms us s vs r
+    length ns ≡ length us → EachUnder (2 ^ 32) us → fieldsFrom us ms s ≡ got vs r → Fields ns ms us s vs r
 
 fields-step :
     (ns ms us : List ℕ) (m : ℕ) (s vs r : List ℕ) (g : Got ℕ) → readBehind m s ≡ g → length ns ≡ length us →
-    AllBelow (2 ^ 32) us → thenRead g (λ v rest. fieldsFrom (us ++ (v ∷ [])) ms rest) ≡ got vs r →
+    EachUnder (2 ^ 32) us → thenRead g (λ v rest. fieldsFrom (us ++ (v ∷ [])) ms rest) ≡ got vs r →
     ((v : ℕ) (rest : List ℕ) → Exact (ns ++ (m ∷ [])) ms (us ++ (v ∷ [])) rest vs r) → Fields ns (m ∷ ms) us s vs r
 fields-step ns ms us m s vs r (got v rest) e l b h ih =
     let x = behind-exact m s v rest e in
@@ -47,13 +47,13 @@ fields-step ns ms us m s vs r bad e l b h ih = bad-got h
 
 -- what reads from bytes behind the numbers so far is `Fields` of it: nothing else is in the bytes, and nothing is lost
 pub fields-exact :
-    (ns ms us s vs r : List ℕ) → length ns ≡ length us → AllBelow (2 ^ 32) us → fieldsFrom us ms s ≡ got vs r →
+    (ns ms us s vs r : List ℕ) → length ns ≡ length us → EachUnder (2 ^ 32) us → fieldsFrom us ms s ≡ got vs r →
     Fields ns ms us s vs r
 unfolding fieldsFrom
 fields-exact ns [] us s vs r l b h =
     let ev : us ≡ vs = cc in
     let er : s ≡ r = cc in
-    record { text = rw (ev, er, append-nil); count = rw (← ev) (omega arith); below = subst (AllBelow (2 ^ 32)) ev b }
+    record { text = rw (ev, er, append-nil); count = rw (← ev) (omega arith); below = subst (EachUnder (2 ^ 32)) ev b }
 fields-exact ns (m ∷ ms) us s vs r l b h =
     fields-step ns ms us m s vs r (readBehind m s) refl l b h
     (λ v rest. fields-exact (ns ++ (m ∷ [])) ms (us ++ (v ∷ [])) rest vs r)
@@ -83,7 +83,7 @@ ends-fields (m ∷ ms) (v ∷ vs) r h l e = parting-cons m ms (isDigit m) refl h
 
 -- numbers of 32 bits behind separators that are not digits read back, if no digit follows them
 pub fields-back :
-    (us ms vs r : List ℕ) → parting ms ≡ true → length vs ≡ length ms → AllBelow (2 ^ 32) vs → Ends r →
+    (us ms vs r : List ℕ) → parting ms ≡ true → length vs ≡ length ms → EachUnder (2 ^ 32) vs → Ends r →
     fieldsFrom us ms (printFields ms vs ++ r) ≡ got (us ++ vs) r
 unfolding fieldsFrom printFields
 fields-back us [] [] r h l b e = rw append-nil
@@ -98,7 +98,7 @@ fields-back us (m ∷ ms) (v ∷ vs) r h l b e =
 
 -- a written line reads back to its numbers, if they have 32 bits and no separator is a digit
 pub line-back :
-    (w ms vs : List ℕ) → parting ms ≡ true → length vs ≡ length ms → AllBelow (2 ^ 32) vs →
+    (w ms vs : List ℕ) → parting ms ≡ true → length vs ≡ length ms → EachUnder (2 ^ 32) vs →
     readLine w ms (printLine w ms vs) ≡ some vs
 unfolding readLine printLine Ends
 line-back w ms vs h l b =
@@ -109,7 +109,7 @@ line-back w ms vs h l b =
 pub record Line (w ms l vs : List ℕ) : Type 0 where
   pub text : l ≡ printLine w ms vs
   pub count : length vs ≡ length ms
-  pub below : AllBelow (2 ^ 32) vs
+  pub below : EachUnder (2 ^ 32) vs
 
 line-word :
     (w ms l vs : List ℕ) (g : Got (Unit {0})) → readWord w l ≡ g →

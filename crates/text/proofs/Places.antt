@@ -5,7 +5,7 @@ use mathlib.Core.Path.{_≡_, sym, ap, _∙_}
 use mathlib.Core.List.{List}
 use lib.ListN.{length, drop, length-drop, drop-of-length-le}
 use borrow.Author.Tests.{lt-ltb, le-ltb}
-use Rattle.facts.proofs.Cases.{Split, split, atMost, over}
+use Rattle.facts.proofs.Cases.{WithinOrOver, within-or-over, atMost, over}
 use Rattle.text.specs.Places.{highest, within, placeAfter, placeIn}
 
 -- a place that is near enough stays
@@ -34,9 +34,9 @@ after-none at l = let e : at + 0 ≡ at = omega arith in after-few at 0 (omega a
 
 -- after the highest place there is none
 pub after-highest : (n : ℕ) → placeAfter highest n ≡ highest
-after-highest n = go (split (highest + n) highest)
+after-highest n = go (within-or-over (highest + n) highest)
   where
-    go : Split (highest + n) highest → placeAfter highest n ≡ highest
+    go : WithinOrOver (highest + n) highest → placeAfter highest n ≡ highest
     go (atMost l) = let e : highest + n ≡ highest = omega arith in after-few highest n (omega arith) ∙ e
     go (over l) = after-many highest n l
 
@@ -46,9 +46,9 @@ moved at m n = let e : (at + m) + n ≡ at + (m + n) = omega arith in ap (λ (k 
 
 -- after some bytes and then others the place is the one after all of them
 pub after-then : (at m n : ℕ) → placeAfter (placeAfter at m) n ≡ placeAfter at (m + n)
-after-then at m n = go (split (at + m) highest)
+after-then at m n = go (within-or-over (at + m) highest)
   where
-    go : Split (at + m) highest → placeAfter (placeAfter at m) n ≡ placeAfter at (m + n)
+    go : WithinOrOver (at + m) highest → placeAfter (placeAfter at m) n ≡ placeAfter at (m + n)
     go (atMost l) = rw (after-few at m (omega arith)) (moved at m n)
     go (over l) = rw (after-many at m l, after-many at (m + n) (omega arith)) (after-highest n)
 
@@ -59,9 +59,9 @@ place-left s at l = simp length-drop (omega arith)
 
 -- a place past the end leaves what its nearest place leaves
 pub drop-within : (s : List ℕ) (at : ℕ) → drop (within at (length s)) s ≡ drop at s
-drop-within s at = go (split at (length s))
+drop-within s at = go (within-or-over at (length s))
   where
-    go : Split at (length s) → drop (within at (length s)) s ≡ drop at s
+    go : WithinOrOver at (length s) → drop (within at (length s)) s ≡ drop at s
     go (atMost l) = rw (within-near at (length s) l)
     go (over l) =
         rw (within-far at (length s) l, drop-of-length-le s {i = length s} (omega arith))
@@ -69,8 +69,8 @@ drop-within s at = go (split at (length s))
 
 -- the nearest place is within the text
 pub within-in : (at size : ℕ) → within at size ≤ size
-within-in at size = go (split at size)
+within-in at size = go (within-or-over at size)
   where
-    go : Split at size → within at size ≤ size
+    go : WithinOrOver at size → within at size ≤ size
     go (atMost l) = rw (within-near at size l) l
     go (over l) = rw (within-far at size l) (omega arith)

@@ -6,7 +6,7 @@ use mathlib.Core.Path.{_≡_, refl, sym, ap, _∙_, subst}
 use mathlib.Core.List.{List, [], _∷_, _++_, append-nil, append-assoc}
 use lib.ListN.{length, getD, take, length-append}
 use lib.Seq.{sets, length-sets, set-out, take-suc}
-use Rattle.facts.proofs.Cases.{Split, split, atMost, over}
+use Rattle.facts.proofs.Cases.{WithinOrOver, within-or-over, atMost, over}
 use Rattle.facts.proofs.Setting.{sets-append}
 use Rattle.text.specs.Places.{highest, placeAfter}
 use Rattle.text.specs.Numbers.{digitsOf}
@@ -26,9 +26,9 @@ put-none l at h = record { place = sym (after-none at h); bytes = refl }
 -- a place that stands for all beyond it is past the end, as they are
 same-place :
     (l : List ℕ) (at n : ℕ) (ys : List ℕ) → length l ≤ highest → sets l (placeAfter at n) ys ≡ sets l (at + n) ys
-same-place l at n ys h = go (split (at + n) highest)
+same-place l at n ys h = go (within-or-over (at + n) highest)
   where
-    go : Split (at + n) highest → sets l (placeAfter at n) ys ≡ sets l (at + n) ys
+    go : WithinOrOver (at + n) highest → sets l (placeAfter at n) ys ≡ sets l (at + n) ys
     go (atMost k) = rw (after-few at n (omega arith))
     go (over k) =
         rw (after-many at n k) (sets-out l highest ys h ∙ sym (sets-out l (at + n) ys (omega arith)))

@@ -10,7 +10,7 @@ use lib.Dec.{ltb}
 use lib.ListN.{length, length-append}
 use borrow.Author.Tests.{ltb-false}
 use Rattle.text.specs.Numbers.{digitsBy, digitsOf}
-use Rattle.text.specs.Line.{printFields, printLine, AllBelow}
+use Rattle.text.specs.Line.{printFields, printLine, EachUnder}
 use Rattle.text.proofs.Numbers.{digits-length}
 
 few-by :
@@ -30,7 +30,7 @@ digits-few k n h = few-by n k n (ltb n 10) refl h
 
 -- numbers of few digits take no more bytes than their separators and so many digits
 pub fields-few :
-    (k : ℕ) (ms vs : List ℕ) → AllBelow (10 ^ suc k) vs → length (printFields ms vs) ≤ length vs * (k + 2)
+    (k : ℕ) (ms vs : List ℕ) → EachUnder (10 ^ suc k) vs → length (printFields ms vs) ≤ length vs * (k + 2)
 unfolding printFields
 fields-few k [] vs b = omega arith
 fields-few k (m ∷ ms) [] b = omega arith
@@ -42,7 +42,7 @@ abbrev pub numberMost : ℕ
 numberMost = 2 ^ 33
 
 -- the numbers of a line take no more than so many bytes each
-fields-size : (ms vs : List ℕ) → AllBelow (2 ^ 32) vs → length (printFields ms vs) ≤ length vs * numberMost
+fields-size : (ms vs : List ℕ) → EachUnder (2 ^ 32) vs → length (printFields ms vs) ≤ length vs * numberMost
 unfolding printFields
 fields-size [] vs b = omega arith
 fields-size (m ∷ ms) [] b = omega arith
@@ -51,6 +51,6 @@ fields-size (m ∷ ms) (v ∷ vs) b =
 
 -- a line takes no more than its word and so many bytes for each number
 pub line-size :
-    (w ms vs : List ℕ) → AllBelow (2 ^ 32) vs → length (printLine w ms vs) ≤ length w + length vs * numberMost
+    (w ms vs : List ℕ) → EachUnder (2 ^ 32) vs → length (printLine w ms vs) ≤ length w + length vs * numberMost
 unfolding printLine
 line-size w ms vs b = simp length-append (omega (arith, fields-size ms vs b))

@@ -7,7 +7,7 @@
 --   readLine w ms l         the numbers of the line l, if it is a line of this format, its newline apart
 --   readCounted w l         those of a line of numbers behind tabs, of which the second says how many follow it
 --   printLine w ms vs       the line of this format with the numbers vs
---   AllBelow lim vs         every number is below lim
+--   EachUnder lim vs         every number is below lim
 use Prim.Native.Nat.{ℕ, _^_, _<_}
 use mathlib.Core.Bool.{Bool, true, false, cond}
 use mathlib.Core.List.{List, [], _∷_, _++_}
@@ -60,9 +60,9 @@ printFields (m ∷ ms) (v ∷ vs) = m ∷ (digitsOf v ++ printFields ms vs)
 unfoldable pub printLine : List ℕ → List ℕ → List ℕ → List ℕ
 printLine w ms vs = w ++ printFields ms vs
 
-abbrev pub AllBelow : ℕ → List ℕ → Type 0
-AllBelow lim [] = Unit {0}
-AllBelow lim (v ∷ vs) = (v < lim) × AllBelow lim vs
+abbrev pub EachUnder : ℕ → List ℕ → Type 0
+EachUnder lim [] = Unit {0}
+EachUnder lim (v ∷ vs) = (v < lim) × EachUnder lim vs
 
 -- no separator is a digit
 abbrev pub parting : List ℕ → Bool

@@ -7,7 +7,7 @@ use mathlib.Core.Path.{_≡_, refl, sym, _∙_}
 use mathlib.Core.List.{List, [], _∷_}
 use lib.ListN.{length}
 use Rattle.facts.specs.Lists.{rises}
-use Rattle.facts.proofs.Cases.{Split, atMost, over, split}
+use Rattle.facts.proofs.Cases.{WithinOrOver, atMost, over, within-or-over}
 use Rattle.trees.specs.Words.{leafMark, nodeCount, fieldOf, childOf, entries}
 use Rattle.tree_check.specs.declared.preorder.Lack.{Lack}
 use Rattle.tree_check.specs.Leads.{leftBox, rightBox, Leads, here, toLeft, toRight}
@@ -76,10 +76,10 @@ module _ {rs nodes pool : List ℕ} where
       {k : ℕ} {b : List (List ℕ)} {i e c l : ℕ} {y : Lack} → Built rs nodes pool k b i e c l y →
       (w : Way nodes b i) × (length (w .cuts) ≡ c)
   deepest (ofLeaf a f r) = (record { cuts = []; at = _; box = _; leads = here f }, refl)
-  deepest (ofCut {b = b} {i = i} {c₁ = c₁} {c₂ = c₂} a d s r) = go (split c₂ c₁) (deepest s) (deepest r)
+  deepest (ofCut {b = b} {i = i} {c₁ = c₁} {c₂ = c₂} a d s r) = go (within-or-over c₂ c₁) (deepest s) (deepest r)
     where
       go :
-          Split c₂ c₁ → (w : Way nodes (leftBox nodes b i) (i + 1)) × (length (w .cuts) ≡ c₁) →
+          WithinOrOver c₂ c₁ → (w : Way nodes (leftBox nodes b i) (i + 1)) × (length (w .cuts) ≡ c₁) →
           (w : Way nodes (rightBox nodes b i) (childOf nodes i)) × (length (w .cuts) ≡ c₂) →
           (w : Way nodes b i) × (length (w .cuts) ≡ max c₁ c₂ + 1)
       go (atMost o) p q = (way-left d (p .0), omega (arith, p .1, max-eq-left o))
@@ -90,10 +90,10 @@ module _ {rs nodes pool : List ℕ} where
       {k : ℕ} {b : List (List ℕ)} {i e c l : ℕ} {y : Lack} → Built rs nodes pool k b i e c l y →
       (w : Way nodes b i) × (length (entries nodes pool (w .at)) ≡ l)
   longest (ofLeaf a f r) = (record { cuts = []; at = _; box = _; leads = here f }, refl)
-  longest (ofCut {b = b} {i = i} {l₁ = l₁} {l₂ = l₂} a d s r) = go (split l₂ l₁) (longest s) (longest r)
+  longest (ofCut {b = b} {i = i} {l₁ = l₁} {l₂ = l₂} a d s r) = go (within-or-over l₂ l₁) (longest s) (longest r)
     where
       go :
-          Split l₂ l₁ → (w : Way nodes (leftBox nodes b i) (i + 1)) × (length (entries nodes pool (w .at)) ≡ l₁) →
+          WithinOrOver l₂ l₁ → (w : Way nodes (leftBox nodes b i) (i + 1)) × (length (entries nodes pool (w .at)) ≡ l₁) →
           (w : Way nodes (rightBox nodes b i) (childOf nodes i)) × (length (entries nodes pool (w .at)) ≡ l₂) →
           (w : Way nodes b i) × (length (entries nodes pool (w .at)) ≡ max l₁ l₂)
       go (atMost o) p q = (way-left d (p .0), p .1 ∙ sym (max-eq-left o))

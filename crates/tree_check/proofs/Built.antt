@@ -10,7 +10,7 @@ use lib.Dec.{eqb}
 use borrow.Author.Tests.{eqb-true}
 use Rattle.facts.specs.Lists.{rises}
 use Rattle.facts.proofs.Bools.{sure}
-use Rattle.facts.proofs.Cases.{Split, atMost, over, split}
+use Rattle.facts.proofs.Cases.{WithinOrOver, atMost, over, within-or-over}
 use Rattle.refusals.specs.declared.Refusal.{Refusal}
 use Rattle.fields.specs.Cuts.{divides}
 use Rattle.fields.proofs.Cuts.{divides-iff}
@@ -90,16 +90,16 @@ module _ (rs nodes pool : List ℕ) where
           (partOf k rs nodes pool (rightBox nodes b i)) (r (rightBox nodes b i)))
 
   part-built : (k : ℕ) (b : List (List ℕ)) (i : ℕ) → BuiltSo k b i (partOf k rs nodes pool b i)
-  part-built zero b i = go (split (nodeCount nodes) i) (split leafMark (fieldOf nodes i))
+  part-built zero b i = go (within-or-over (nodeCount nodes) i) (within-or-over leafMark (fieldOf nodes i))
     where
-      go : Split (nodeCount nodes) i → Split leafMark (fieldOf nodes i) → BuiltSo 0 b i (partOf 0 rs nodes pool b i)
+      go : WithinOrOver (nodeCount nodes) i → WithinOrOver leafMark (fieldOf nodes i) → BuiltSo 0 b i (partOf 0 rs nodes pool b i)
       go (atMost a) s = rw (part-missing rs nodes pool b i 0 a) six
       go (over a) (atMost f) = rw (part-leaf rs nodes pool b i a 0 f) (leaf-built 0 b i a f)
       go (over a) (over f) = rw (part-deep rs nodes pool b i a f) six
-  part-built (suc k) b i = go (split (nodeCount nodes) i) (split leafMark (fieldOf nodes i)) (λ d j. part-built k d j)
+  part-built (suc k) b i = go (within-or-over (nodeCount nodes) i) (within-or-over leafMark (fieldOf nodes i)) (λ d j. part-built k d j)
     where
       go :
-          Split (nodeCount nodes) i → Split leafMark (fieldOf nodes i) →
+          WithinOrOver (nodeCount nodes) i → WithinOrOver leafMark (fieldOf nodes i) →
           ((d : List (List ℕ)) (j : ℕ) → BuiltSo k d j (partOf k rs nodes pool d j)) →
           BuiltSo (suc k) b i (partOf (suc k) rs nodes pool b i)
       go (atMost a) s r = rw (part-missing rs nodes pool b i (suc k) a) six

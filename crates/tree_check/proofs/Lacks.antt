@@ -8,7 +8,7 @@ use mathlib.Core.List.{List}
 use borrow.Author.Tests.{lt-ltb, le-ltb, not-true}
 use Rattle.facts.specs.Lists.{has}
 use Rattle.facts.proofs.Bools.{both, join, sure, clash}
-use Rattle.facts.proofs.Cases.{Split, atMost, over, split}
+use Rattle.facts.proofs.Cases.{WithinOrOver, atMost, over, within-or-over}
 use Rattle.facts.proofs.Lowest.{lowest-at-most, lowest-passes, lowest-none-iff}
 use Rattle.fields.specs.Words.{fieldCount}
 use Rattle.fields.specs.Boxes.{meets}
@@ -62,9 +62,9 @@ module _ (rs nodes pool : List ℕ) (d : List (List ℕ)) (x : ℕ) where
 
   -- a leaf's lack is none exactly where it lists every rule whose box meets its own
   pub complete-iff : (lackOf rs (entries nodes pool x) d x ≡ Complete) ↔ LacksNone rs nodes pool d x
-  complete-iff = (λ e. to e (split (ruleCount rs) low), of)
+  complete-iff = (λ e. to e (within-or-over (ruleCount rs) low), of)
     where
-      to : lackOf rs (entries nodes pool x) d x ≡ Complete → Split (ruleCount rs) low → LacksNone rs nodes pool d x
+      to : lackOf rs (entries nodes pool x) d x ≡ Complete → WithinOrOver (ruleCount rs) low → LacksNone rs nodes pool d x
       to e (atMost l) r u = not-lacking-iff r .0 (low-none-iff .0 l r u)
       to e (over l) r u = lacks-not-complete (sym (lack-there l) ∙ e)
 
@@ -95,9 +95,9 @@ module _ (rs nodes pool : List ℕ) (d : List (List ℕ)) (x : ℕ) where
 
   -- a leaf's lack names the leaf, and the lowest rule that it lacks
   pub lack-means : {i r : ℕ} → lackOf rs (entries nodes pool x) d x ≡ Lacks i r → (x ≡ i) × LowestLack r
-  lack-means {i} {r} e = go (split (ruleCount rs) low)
+  lack-means {i} {r} e = go (within-or-over (ruleCount rs) low)
     where
-      go : Split (ruleCount rs) low → (x ≡ i) × LowestLack r
+      go : WithinOrOver (ruleCount rs) low → (x ≡ i) × LowestLack r
       go (atMost l) = lacks-not-complete (sym e ∙ lack-none l)
       go (over l) =
           let w : Lacks x low ≡ Lacks i r = sym (lack-there l) ∙ e in

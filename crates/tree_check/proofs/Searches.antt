@@ -18,7 +18,7 @@ use Rattle.rules.specs.LineAll.{allVerdict, lineAllWords}
 use Rattle.rules.specs.LineFirst.{firstOf, lineFirst}
 use Rattle.trees.specs.Words.{startOf, countOf, entries}
 use Rattle.trees.specs.Walk.{Walk, walkOf, leafOf, visited}
-use Rattle.trees.specs.Search.{walkVerdict, leafVerdict, treeVerdict, leafList, treeList, lookedAt}
+use Rattle.trees.specs.Search.{walkVerdict, leafVerdict, reachVerdict, leafList, treeList, lookedAt}
 use Rattle.trees.specs.Counted.{counted, said, counting}
 use Rattle.trees.specs.TreeAll.{treeAllVerdict, treeAll, treeAllWords}
 use Rattle.trees.specs.TreeFirst.{treeFirst}
@@ -42,8 +42,8 @@ leaf-fine rs nodes pool i s =
 -- in a tree whose root's part is built no legal header is refused
 pub built-refuses-none :
     {rs nodes pool : List ℕ} {c l : ℕ} {y : Lack} → Formed rs nodes pool c l y → (h : List ℕ) → Legal h →
-    treeVerdict rs nodes pool h ≡ Fine
-unfolding treeVerdict
+    reachVerdict rs nodes pool h ≡ Fine
+unfolding reachVerdict
 built-refuses-none {rs} {nodes} {pool} t h k =
     let f = finds t h k in
     let way = comes t (f .0 .leads) h (f .1) in
@@ -53,7 +53,7 @@ built-refuses-none {rs} {nodes} {pool} t h k =
 
 module _ (rs nodes pool : List ℕ) (ok : checkVerdict rs nodes pool ≡ Fine) where
   -- by an accepted tree no legal header is refused
-  pub refuses-none : (h : List ℕ) → Legal h → treeVerdict rs nodes pool h ≡ Fine
+  pub refuses-none : (h : List ℕ) → Legal h → reachVerdict rs nodes pool h ≡ Fine
   refuses-none h k = built-refuses-none (formed (accepted rs nodes pool ok .2)) h k
 
   -- every legal header gets the line search's list
@@ -62,7 +62,7 @@ module _ (rs nodes pool : List ℕ) (ok : checkVerdict rs nodes pool ≡ Fine) w
 
   -- the tree search for all matches refuses any header as the line search does, for any room
   pub same-verdict : (h : List ℕ) (room : ℕ) → treeAllVerdict rs nodes pool h room ≡ allVerdict rs h room
-  unfolding treeAllVerdict allVerdict treeVerdict
+  unfolding treeAllVerdict allVerdict reachVerdict
   same-verdict h room = go (headerVerdict h) refl
     where
       list : listVerdict rs ≡ Fine
@@ -112,7 +112,7 @@ module _ (rs nodes pool : List ℕ) (ok : checkVerdict rs nodes pool ≡ Fine) w
 
   -- of any header the search for the first match says what the line search says
   pub same-first : (h : List ℕ) → said (treeFirst rs nodes pool h) ≡ lineFirst rs h
-  unfolding treeFirst treeVerdict lineFirst
+  unfolding treeFirst reachVerdict lineFirst
   same-first h = go (headerVerdict h) refl
     where
       go : (v : Verdict) → headerVerdict h ≡ v → said (treeFirst rs nodes pool h) ≡ lineFirst rs h

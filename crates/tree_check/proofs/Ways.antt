@@ -3,7 +3,7 @@
 use Prim.Native.Nat.{ℕ, _+_, _≤_, _<_}
 use mathlib.Core.List.{List, [], _∷_}
 use lib.ListN.{getD}
-use Rattle.facts.proofs.Cases.{Split, atMost, over, split}
+use Rattle.facts.proofs.Cases.{WithinOrOver, atMost, over, within-or-over}
 use Rattle.fields.specs.Words.{fieldCount}
 use Rattle.fields.specs.Boxes.{Pairs, Inside, Full}
 use Rattle.fields.proofs.Cutting.{pairs-left, pairs-right, inside-left, inside-right, left-inside, right-inside}
@@ -87,12 +87,12 @@ pub find :
     WayOf nodes b i h
 find (ofLeaf a f r) p h q = (record { cuts = []; at = _; box = _; leads = here f }, q)
 find {nodes = nodes} (ofCut {b = b} {i = i} a d s r) p h q =
-    go (split (getD h (fieldOf nodes i) 0) (valueOf nodes i))
+    go (within-or-over (getD h (fieldOf nodes i) 0) (valueOf nodes i))
     (λ o. find s (left-pairs d p) h (inside-left fieldCount b p _ _ (d .field) h q o))
     (λ o. find r (right-pairs d p) h (inside-right fieldCount b p _ _ (d .field) h q o))
   where
     go :
-        Split (getD h (fieldOf nodes i) 0) (valueOf nodes i) →
+        WithinOrOver (getD h (fieldOf nodes i) 0) (valueOf nodes i) →
         (getD h (fieldOf nodes i) 0 ≤ valueOf nodes i → WayOf nodes (leftBox nodes b i) (i + 1) h) →
         (valueOf nodes i < getD h (fieldOf nodes i) 0 → WayOf nodes (rightBox nodes b i) (childOf nodes i) h) →
         WayOf nodes b i h

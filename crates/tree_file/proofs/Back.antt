@@ -10,7 +10,7 @@ use lib.ListN.{length, take, length-take, length-replicate}
 use lib.Seq.{take-add, take-all}
 use borrow.Author.Tests.{lt-ltb, le-ltb, le-leb, eq-eqb}
 use Rattle.facts.proofs.Bools.{join}
-use Rattle.facts.proofs.Cases.{Split, split, atMost, over}
+use Rattle.facts.proofs.Cases.{WithinOrOver, within-or-over, atMost, over}
 use Rattle.rules.specs.Words.{mostRules}
 use Rattle.trees.specs.Words.{nodeWords, mostNodes, mostPool, leafMark, nodeCount, fieldOf, childOf, startOf}
 use Rattle.trees.specs.Words.{countOf, entries}
@@ -18,7 +18,7 @@ use Rattle.trees.specs.Spelt.{countsBelow, SpeltLeaf}
 use Rattle.trees.proofs.LeafSpelling.{counts-step, cut-counts-none, leaf-counts}
 use Rattle.text.specs.Words.{tab, treeWord, cutWord, leafWord, endWord, oneTab, threeTabs, fourTabs}
 use Rattle.text.specs.Numbers.{isDigit}
-use Rattle.text.specs.Line.{readWord, readLine, readCounted, printLine, AllBelow}
+use Rattle.text.specs.Line.{readWord, readLine, readCounted, printLine, EachUnder}
 use Rattle.text.proofs.Lines.{line-back}
 use Rattle.text.proofs.Counted.{line-counted}
 use Rattle.tree_file.specs.TreeText.{tree, State, start, within, over, headTest, cutTest, leafTest, endTest, step}
@@ -32,7 +32,7 @@ leaf-not-cut : (ms vs : List ℕ) → readLine cutWord fourTabs (printLine leafW
 unfolding readLine printLine readWord
 leaf-not-cut ms vs = refl
 
-module _ {n : ℕ} {ws es : List ℕ} (g : Spelling n ws es) (b : AllBelow (2 ^ 32) ws) where
+module _ {n : ℕ} {ws es : List ℕ} (g : Spelling n ws es) (b : EachUnder (2 ^ 32) ws) where
   -- the state after i nodes
   abbrev pub after : ℕ → State
   after i = within n (nodeCount ws) (length es) i (take (i * nodeWords) ws) (take (countsBelow ws i) es)
@@ -147,8 +147,8 @@ module _ {n : ℕ} {ws es : List ℕ} (g : Spelling n ws es) (b : AllBelow (2 ^ 
 
     -- a node's line leads to the next node
     pub node-back : step (after i) (nodeLine ws es i) ≡ some (after (i + 1))
-    node-back = go (split leafMark (fieldOf ws i))
+    node-back = go (within-or-over leafMark (fieldOf ws i))
       where
-        go : Split leafMark (fieldOf ws i) → step (after i) (nodeLine ws es i) ≡ some (after (i + 1))
+        go : WithinOrOver leafMark (fieldOf ws i) → step (after i) (nodeLine ws es i) ≡ some (after (i + 1))
         go (atMost l) = leaf-back l
         go (over l) = cut-back l

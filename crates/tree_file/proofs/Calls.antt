@@ -20,14 +20,14 @@ use Rattle.refusals.proofs.Unique.{refusal-not-success}
 use Rattle.refusals.proofs.Giving.{success-giving}
 use Rattle.trees.specs.Words.{nodeWords, nodeCount, sizeVerdict}
 use Rattle.trees.proofs.Sizes.{sizes-fine-iff}
-use Rattle.text.specs.Line.{AllBelow}
+use Rattle.text.specs.Line.{EachUnder}
 use Rattle.text.specs.Text.{Reading, good, refused, split, linesOf}
 use Rattle.tree_file.specs.declared.read.Read.the-variants as read
 use Rattle.tree_file.specs.declared.write.Written.the-variants as write
 use Rattle.tree_file.specs.TreeText.{Tree, tree, treeIn}
 use Rattle.tree_file.specs.TreeLines.{treeText, Spelling}
 use Rattle.tree_file.specs.ReadTree.{roomFor, verdictOf, readVerdict, readTree, readNodes, readPool, TreeRead}
-use Rattle.tree_file.specs.WriteTree.{treeVerdict, writeVerdict, writeTree, writeTreeBytes, TreeWritten}
+use Rattle.tree_file.specs.WriteTree.{spellingVerdict, writeVerdict, writeTree, writeTreeBytes, TreeWritten}
 use Rattle.tree_file.proofs.RoundTrips.{read-of-written, written-of-read, spelling-of-read, cut-refused}
 use Rattle.tree_file.proofs.Written.{spelling-of-fine, fine-of-spelling}
 
@@ -70,7 +70,7 @@ module _
   unfolding writeVerdict
   spelt =
       spelling-of-fine n ns es
-      (then-fine-iff (treeVerdict n ns es) (roomVerdict (length text) (length before)) .0 (wrote .0) .0)
+      (then-fine-iff (spellingVerdict n ns es) (roomVerdict (length text) (length before)) .0 (wrote .0) .0)
 
   size : length text ≡ k
   size = let e = wrote .1 in cc
@@ -85,7 +85,7 @@ module _
 
   -- what was written reads back as the same tree
   pub reads-back :
-      AllBelow (2 ^ 32) ns → (nodes pool : List ℕ) → length ns ≤ length nodes → length es ≤ length pool →
+      EachUnder (2 ^ 32) ns → (nodes pool : List ℕ) → length ns ≤ length nodes → length es ≤ length pool →
       (readTree (take k after) (length nodes) (length pool) ≡ success (n ∷ nodeCount ns ∷ length es ∷ [])) ×
       (readNodes (take k after) nodes pool ≡ written ns nodes) × (readPool (take k after) nodes pool ≡ written es pool)
   reads-back b nodes pool =
@@ -138,7 +138,7 @@ module _
       let ns : List ℕ = take (m * nodeWords) nodes′ in
       let es : List ℕ = take p pool′ in
       let says = read-tree .says in
-      let fine : (treeVerdict n ns es then roomVerdict (length s) (length found)) ≡ verdict.Fine =
+      let fine : (spellingVerdict n ns es then roomVerdict (length s) (length found)) ≡ verdict.Fine =
       then-fine _ (fine-of-spelling n ns es (spelling-of-read s n ns es says)) ∙
       room-fine-iff (length s) (length found) .1 room in
       rw (written-of-read s n ns es says) (giving-fine _ fine, leaving-fine _ _ fine)

@@ -8,7 +8,7 @@ use mathlib.Core.List.{List, [], _∷_, _++_}
 use lib.ListN.{length, getD}
 use lib.Dec.{ltb}
 use borrow.Author.Tests.{ltb-true, ltb-false, eqb-true}
-use Rattle.facts.specs.Lists.{tab}
+use Rattle.facts.specs.Lists.{tabulate}
 use Rattle.facts.proofs.Bools.{both}
 use Rattle.facts.proofs.Setting.{cells}
 use Rattle.trees.specs.Words.{nodeCount}
@@ -77,7 +77,7 @@ module _ {n m p i : ℕ} {ws es t : List ℕ} (w : Mid n m p i ws es t) (l : Lis
   end-leads :
       (o : Option (List ℕ)) → m ≤ i → readLine endWord oneTab l ≡ o → onEnd n m p ws es o ≡ some st →
       W st (t ++ (l ++ (newline ∷ [])))
-  unfolding tab endTest
+  unfolding tabulate endTest
   end-leads none h r q = none-some q
   end-leads (some v) h r q =
       let f = line-exact endWord oneTab l v r in

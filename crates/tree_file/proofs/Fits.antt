@@ -4,10 +4,10 @@ use Prim.Native.Nat.{ℕ, zero, suc, _+_, _*_, _≤_, _<_, _^_}
 use native.Mathlib.Omega.{arith}
 use mathlib.Core.List.{List, [], _∷_}
 use lib.ListN.{length, length-append}
-use Rattle.facts.proofs.Cases.{Split, split, atMost, over}
+use Rattle.facts.proofs.Cases.{WithinOrOver, within-or-over, atMost, over}
 use Rattle.trees.specs.Words.{leafMark, nodeCount, fieldOf, countOf}
 use Rattle.text.specs.Words.{treeWord, cutWord, leafWord, endWord, oneTab, threeTabs, fourTabs}
-use Rattle.text.specs.Line.{AllBelow}
+use Rattle.text.specs.Line.{EachUnder}
 use Rattle.text.specs.Text.{unlines}
 use Rattle.text.proofs.Sizes.{line-size}
 use Rattle.text.proofs.Texts.{unlines-more}
@@ -19,12 +19,12 @@ use Rattle.tree_file.proofs.Spelling.{sizes-of, few-nodes, entries-coun
 abbrev nodeMost : ℕ
 nodeMost = 2 ^ 44
 
-module _ {n : ℕ} {ws es : List ℕ} (g : Spelling n ws es) (b : AllBelow (2 ^ 32) ws) where
+module _ {n : ℕ} {ws es : List ℕ} (g : Spelling n ws es) (b : EachUnder (2 ^ 32) ws) where
   -- a node's line takes fewer than so many bytes
   node-size : (i : ℕ) → i < nodeCount ws → length (nodeLine ws es i) < nodeMost
-  node-size i h = go (split leafMark (fieldOf ws i))
+  node-size i h = go (within-or-over leafMark (fieldOf ws i))
     where
-      go : Split leafMark (fieldOf ws i) → length (nodeLine ws es i) < nodeMost
+      go : WithinOrOver leafMark (fieldOf ws i) → length (nodeLine ws es i) < nodeMost
       go (atMost l) =
           let s = g .spelt .leaf i h l in
           rw (leaf-line ws es i l)

@@ -7,7 +7,7 @@ use mathlib.Core.List.{List, _++_}
 use lib.ListN.{length, getD, take, drop, length-append, length-drop, List·getD-append}
 use lib.Seq.{getD-append-add, take-append-le, drop-append-le}
 use borrow.Author.Tests.{lt-ltb, le-ltb}
-use Rattle.facts.proofs.Cases.{Split, split, atMost, over}
+use Rattle.facts.proofs.Cases.{WithinOrOver, within-or-over, atMost, over}
 use Rattle.text.specs.Words.{cutWord, leafWord, fourTabs}
 use Rattle.text.specs.Line.{printLine}
 use Rattle.trees.specs.Words.{nodeWords, leafMark, nodeWord, fieldOf, childOf, startOf, countOf, entries}
@@ -97,12 +97,12 @@ module _ (ws es xs ys : List ℕ) (i : ℕ) (h : i * nodeWords + 2 < length ws) 
 
   -- the line of a node that is spelt stays
   line-kept : {n m : ℕ} → SpeltAt n m ws es i → nodeLine (ws ++ xs) (es ++ ys) i ≡ nodeLine ws es i
-  line-kept s = go (split leafMark (fieldOf ws i))
+  line-kept s = go (within-or-over leafMark (fieldOf ws i))
     where
       f : fieldOf (ws ++ xs) i ≡ fieldOf ws i
       f = word-kept ws xs i 0 (omega arith)
 
-      go : Split leafMark (fieldOf ws i) → nodeLine (ws ++ xs) (es ++ ys) i ≡ nodeLine ws es i
+      go : WithinOrOver leafMark (fieldOf ws i) → nodeLine (ws ++ xs) (es ++ ys) i ≡ nodeLine ws es i
       go (atMost l) =
           leaf-line (ws ++ xs) (es ++ ys) i (rw f l) ∙
           rw (word-kept ws xs i 2 h, entries-kept (s .leaf l)) (sym (leaf-line ws es i l))

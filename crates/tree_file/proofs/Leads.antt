@@ -7,11 +7,11 @@ use mathlib.Core.Path.{_≡_, refl, sym, ap, subst, _∙_}
 use mathlib.Core.Option.{Option, none, some}
 use mathlib.Core.List.{List, [], _∷_, _++_, append-nil}
 use lib.ListN.{length, getD, drop}
-use Rattle.facts.specs.Lists.{tab, allUnder}
+use Rattle.facts.specs.Lists.{tabulate, allUnder}
 use Rattle.facts.proofs.Setting.{cells}
 use Rattle.trees.proofs.LeafSpelling.{counts-first}
 use Rattle.text.specs.Words.{newline, treeWord, cutWord, leafWord, threeTabs, fourTabs}
-use Rattle.text.specs.Line.{readLine, readCounted, printLine, AllBelow}
+use Rattle.text.specs.Line.{readLine, readCounted, printLine, EachUnder}
 use Rattle.text.specs.Text.{unlines}
 use Rattle.text.proofs.Lines.{Line, line-exact, none-some}
 use Rattle.text.proofs.Counted.{countedMarks, counted-line}
@@ -25,7 +25,7 @@ use Rattle.tree_file.proofs.OneNode.{cut-node, leaf-node}
 pub record Says (s : List ℕ) (n : ℕ) (ws es : List ℕ) : Type 0 where
   pub text : s ≡ treeText n ws es
   pub spelling : Spelling n ws es
-  pub below : AllBelow (2 ^ 32) ws
+  pub below : EachUnder (2 ^ 32) ws
 
 abbrev pub W : State → List ℕ → Type 0
 W start t = t ≡ []
@@ -41,7 +41,7 @@ made false e = none-some e
 pub head-leads :
     (l t : List ℕ) (st : State) (o : Option (List ℕ)) → readLine treeWord threeTabs l ≡ o → t ≡ [] →
     onHead o ≡ some st → W st (t ++ (l ++ (newline ∷ [])))
-unfolding tab nodeLines unlines
+unfolding tabulate nodeLines unlines
 head-leads l t st none q e h = none-some h
 head-leads l t st (some v) q e h =
     let f = line-exact treeWord threeTabs l v q in

@@ -16,7 +16,7 @@ use Rattle.trees.specs.Words.{nodeWords, mostNodes, mostPool}
 use Rattle.trees.specs.Spelt.{leafCount, countsBelow}
 use Rattle.trees.proofs.LeafSpelling.{counts-step}
 use Rattle.text.specs.Words.{newline}
-use Rattle.text.specs.Line.{AllBelow}
+use Rattle.text.specs.Line.{EachUnder}
 use Rattle.text.specs.Text.{unlines}
 use Rattle.text.proofs.Below.{below-append}
 use Rattle.text.proofs.Texts.{unlines-more}
@@ -60,7 +60,7 @@ pub record Mid (n m p i : ℕ) (ws es t : List ℕ) : Type 0 where
   pub limits : headTest n m p ≡ true
   pub most : i ≤ m
   pub room : length es ≤ p
-  pub below : AllBelow (2 ^ 32) ws
+  pub below : EachUnder (2 ^ 32) ws
   pub each : (j : ℕ) → j < i → SpeltAt n m ws es j
   pub total : countsBelow ws i ≡ length es
 
@@ -70,7 +70,7 @@ pub record Node (n m p i : ℕ) (ws es xs ys l : List ℕ) : Type 0 where
   pub line : l ≡ nodeLine (ws ++ xs) (es ++ ys) i
   pub spelt : SpeltAt n m (ws ++ xs) (es ++ ys) i
   pub count : leafCount (ws ++ xs) i ≡ length ys
-  pub below : AllBelow (2 ^ 32) xs
+  pub below : EachUnder (2 ^ 32) xs
   pub room : length es + length ys ≤ p
 
 module _ {n m p i : ℕ} {ws es xs ys t l : List ℕ} (w : Mid n m p i ws es t) (h : i < m)

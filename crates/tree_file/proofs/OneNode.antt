@@ -6,7 +6,7 @@ use mathlib.Core.Path.{_≡_, refl, sym, ap, _∙_}
 use mathlib.Core.List.{List, [], _∷_, _++_}
 use lib.ListN.{length, getD, take, drop, length-append, length-drop, length-replicate}
 use lib.Seq.{drop-append-seam, take-all}
-use Rattle.facts.specs.Lists.{tab, allUnder}
+use Rattle.facts.specs.Lists.{tabulate, allUnder}
 use Rattle.facts.proofs.Bools.{both}
 use Rattle.facts.proofs.Setting.{cells}
 use Rattle.facts.proofs.Under.{all-under-iff-has}
@@ -14,7 +14,7 @@ use Rattle.trees.specs.Words.{nodeWords, leafMark, fieldOf, entries}
 use Rattle.trees.specs.Spelt.{SpeltLeaf}
 use Rattle.trees.proofs.LeafSpelling.{cut-counts-none, leaf-counts}
 use Rattle.text.specs.Words.{cutWord, leafWord, fourTabs}
-use Rattle.text.specs.Line.{printLine, AllBelow}
+use Rattle.text.specs.Line.{printLine, EachUnder}
 use Rattle.text.proofs.Below.{below-at}
 use Rattle.text.proofs.Counted.{countedMarks}
 use Rattle.text.proofs.Lines.{Line}
@@ -39,7 +39,7 @@ module _ {n m p i : ℕ} {ws es t l v : List ℕ} (w : Mid n m p i ws es t) wher
 
     -- a cut line that passes is the line of the cut that it adds
     cut-text : l ≡ nodeLine (ws ++ xs) (es ++ []) i
-    unfolding tab xs
+    unfolding tabulate xs
     cut-text =
         let q = cut-passes m i (getD v 0 0) (getD v 1 0) (getD v 3 0) e in
         let word : (j : ℕ) → _ = λ j. word-last ws xs i j (w .size) in
@@ -145,7 +145,7 @@ module _ {n m p i : ℕ} {ws es t l v : List ℕ} (w : Mid n m p i ws es t) wher
         }
 
     -- the numbers of the leaf that is added are of 32 bits
-    leaf-small : AllBelow (2 ^ 32) ls
+    leaf-small : EachUnder (2 ^ 32) ls
     unfolding ls
     leaf-small =
         let few = few-of n m p (w .limits) in

@@ -11,14 +11,14 @@ use lib.ListN.{length}
 use Rattle.refusals.specs.declared.Refusal.the-variants.{TextStops}
 use Rattle.trees.specs.Words.{leafMark, nodeCount, fieldOf, countOf}
 use Rattle.text.specs.Words.{treeWord, cutWord, leafWord, endWord, oneTab, threeTabs, fourTabs}
-use Rattle.text.specs.Line.{AllBelow}
+use Rattle.text.specs.Line.{EachUnder}
 use Rattle.text.specs.Text.{split, linesOf, good, refused, run}
 use Rattle.text.proofs.Lines.{none-some}
 use Rattle.text.proofs.Plain.{Plain, AllPlain, plain-of, all-plain-more, line-plain}
 use Rattle.text.proofs.Texts.{split-lines}
 use Rattle.text.proofs.Runs.{Walk, walk-more, walk-run}
 use Rattle.text.proofs.Cut.{cut}
-use Rattle.facts.proofs.Cases.{Split, split as compare, atMost, over as above}
+use Rattle.facts.proofs.Cases.{WithinOrOver, within-or-over, atMost, over as above}
 use Rattle.tree_file.specs.TreeText.{Tree, tree, State, start, within, over, step, finish, treeIn}
 use Rattle.tree_file.specs.TreeLines.{cutNumbers, leafNumbers, leafMarks, nodeLine, nodeLines, headLine, endLine}
 use Rattle.tree_file.specs.TreeLines.{treeLines, treeText, Spelling}
@@ -31,9 +31,9 @@ use Rattle.tree_file.proofs.Exact.{text-says}
 
 -- a node's line has none
 node-plain : (ws es : List ℕ) (i : ℕ) → Plain (nodeLine ws es i)
-node-plain ws es i = go (compare leafMark (fieldOf ws i))
+node-plain ws es i = go (within-or-over leafMark (fieldOf ws i))
   where
-    go : Split leafMark (fieldOf ws i) → Plain (nodeLine ws es i)
+    go : WithinOrOver leafMark (fieldOf ws i) → Plain (nodeLine ws es i)
     go (atMost l) =
         rw (leaf-line ws es i l)
         (line-plain leafWord (leafMarks (countOf ws i)) (leafNumbers ws es i) (plain-of leafWord refl)
@@ -58,7 +58,7 @@ file-plain n ws es =
 
 -- ---- what is written reads back
 
-module _ {n : ℕ} {ws es : List ℕ} (g : Spelling n ws es) (b : AllBelow (2 ^ 32) ws) where
+module _ {n : ℕ} {ws es : List ℕ} (g : Spelling n ws es) (b : EachUnder (2 ^ 32) ws) where
   -- the first line and the lines of the first i nodes lead to the state after them
   walked :
       (i : ℕ) → i ≤ nodeCount ws →
@@ -92,7 +92,7 @@ spelling-of-read s n nodes pool e = text-says s n nodes pool e .spelling
 
 -- the words of the nodes that a text says are of 32 bits
 pub below-of-read :
-    (s : List ℕ) (n : ℕ) (nodes pool : List ℕ) → treeIn s ≡ good (tree n nodes pool) → AllBelow (2 ^ 32) nodes
+    (s : List ℕ) (n : ℕ) (nodes pool : List ℕ) → treeIn s ≡ good (tree n nodes pool) → EachUnder (2 ^ 32) nodes
 below-of-read s n nodes pool e = text-says s n nodes pool e .below
 
 -- ---- what is cut

@@ -8,7 +8,7 @@ use lib.ListN.{length, getD, take, drop, length-take, length-drop}
 use lib.Dec.{ltb}
 use lib.Seq.{take-add, getD-take, getD-drop}
 use borrow.Author.Tests.{ltb-true}
-use Rattle.facts.specs.Lists.{tab, allUnder}
+use Rattle.facts.specs.Lists.{tabulate, allUnder}
 use Rattle.facts.proofs.Bools.{both}
 use Rattle.facts.proofs.Setting.{cells}
 use Rattle.facts.proofs.Under.{all-under-iff-has}
@@ -16,7 +16,7 @@ use Rattle.trees.specs.Words.{nodeWords, mostNodes, nodeCount, nodeWord, fieldO
 use Rattle.trees.specs.Spelt.{SpeltLeaf}
 use Rattle.trees.proofs.Sizes.{Sizes, sizes-fine-iff}
 use Rattle.text.specs.Numbers.{isDigit}
-use Rattle.text.specs.Line.{AllBelow, parting}
+use Rattle.text.specs.Line.{EachUnder, parting}
 use Rattle.text.proofs.Below.{below-at}
 use Rattle.text.proofs.Plain.{Plain}
 use Rattle.tree_file.specs.WriteSteps.{Writable}
@@ -34,7 +34,7 @@ tabs-plain zero = ((λ e. omega arith), ((λ e. omega arith), tt))
 tabs-plain (suc c) = ((λ e. omega arith), tabs-plain c)
 
 -- numbers below n are below every limit from n on
-pub under-below : (n lim : ℕ) (l : List ℕ) → n ≤ lim → allUnder n l ≡ true → AllBelow lim l
+pub under-below : (n lim : ℕ) (l : List ℕ) → n ≤ lim → allUnder n l ≡ true → EachUnder lim l
 unfolding allUnder
 under-below n lim [] h e = tt
 under-below n lim (x ∷ l) h e =
@@ -45,7 +45,7 @@ under-below n lim (x ∷ l) h e =
 words-of :
     (ws : List ℕ) (i : ℕ) → i * nodeWords + nodeWords ≤ length ws →
     take nodeWords (drop (i * nodeWords) ws) ≡ fieldOf ws i ∷ valueOf ws i ∷ childOf ws i ∷ []
-unfolding tab
+unfolding tabulate
 words-of ws i h =
     let part = take nodeWords (drop (i * nodeWords) ws) in
     let at : (j : ℕ) → j < nodeWords → getD part j 0 ≡ nodeWord ws i j =
@@ -96,16 +96,16 @@ module _ {n : ℕ} {ws es : List ℕ} (g : Spelling n ws es) where
   unfolding entries
   entries-count i s = simp (length-take, length-drop) (omega (arith, s .within))
 
-  module _ (b : AllBelow (2 ^ 32) ws) (i : ℕ) (h : i < nodeCount ws) where
+  module _ (b : EachUnder (2 ^ 32) ws) (i : ℕ) (h : i < nodeCount ws) where
     -- the numbers of a cut line are of 32 bits
-    pub cut-below : AllBelow (2 ^ 32) (cutNumbers ws i)
+    pub cut-below : EachUnder (2 ^ 32) (cutNumbers ws i)
     cut-below =
         let at : (j : ℕ) → nodeWord ws i j < 2 ^ 32 =
         (λ j. below-at (2 ^ 32) ws (i * nodeWords + j) (omega arith) b) in
         (omega (arith, few-nodes), (at 0, (at 1, (at 2, tt))))
 
     -- the numbers of a leaf line are of 32 bits
-    pub leaf-below : SpeltLeaf n ws es i → AllBelow (2 ^ 32) (leafNumbers ws es i)
+    pub leaf-below : SpeltLeaf n ws es i → EachUnder (2 ^ 32) (leafNumbers ws es i)
     leaf-below s = (
       omega (arith, few-nodes),
       (

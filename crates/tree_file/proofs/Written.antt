@@ -23,30 +23,30 @@ use Rattle.text.specs.Puts.{Put}
 use Rattle.text.proofs.Places.{after-few}
 use Rattle.tree_file.specs.declared.write.Written.the-variants as said
 use Rattle.tree_file.specs.TreeLines.{treeText, Spelling}
-use Rattle.tree_file.specs.WriteTree.{treeVerdict, writeVerdict, writeTree, writeTreeBytes, TreeWritten}
+use Rattle.tree_file.specs.WriteTree.{spellingVerdict, writeVerdict, writeTree, writeTreeBytes, TreeWritten}
 
 module _ (n : ℕ) (nodes pool : List ℕ) where
   -- ---- whether there is a file
 
   -- more than the most rules are refused
-  pub many-rules : mostRules < n → Refused RuleWordsWrong ≡ treeVerdict n nodes pool
-  unfolding treeVerdict
+  pub many-rules : mostRules < n → Refused RuleWordsWrong ≡ spellingVerdict n nodes pool
+  unfolding spellingVerdict
   many-rules l = sym (then-refused _ (fails-refused _ (lt-leb n mostRules l)))
 
   module _ (few : n ≤ mostRules) where
     -- then the sizes refuse
-    pub sizes-refuse : {why : Refusal} → sizeVerdict nodes pool ≡ Refused why → Refused why ≡ treeVerdict n nodes pool
-    unfolding treeVerdict
+    pub sizes-refuse : {why : Refusal} → sizeVerdict nodes pool ≡ Refused why → Refused why ≡ spellingVerdict n nodes pool
+    unfolding spellingVerdict
     sizes-refuse e = sym (then-fine _ (holds-fine _ (le-leb n mostRules few)) ∙ then-refused _ e)
 
     -- then *spelt* decides
-    pub spelt-decides : sizeVerdict nodes pool ≡ Fine → speltVerdict n nodes pool ≡ treeVerdict n nodes pool
-    unfolding treeVerdict
+    pub spelt-decides : sizeVerdict nodes pool ≡ Fine → speltVerdict n nodes pool ≡ spellingVerdict n nodes pool
+    unfolding spellingVerdict
     spelt-decides e = sym (then-fine _ (holds-fine _ (le-leb n mostRules few)) ∙ then-fine _ e)
 
   -- a tree that is not refused is spelt
-  pub spelling-of-fine : treeVerdict n nodes pool ≡ Fine → Spelling n nodes pool
-  unfolding treeVerdict
+  pub spelling-of-fine : spellingVerdict n nodes pool ≡ Fine → Spelling n nodes pool
+  unfolding spellingVerdict
   spelling-of-fine e =
       let t = then-fine-iff _ _ .0 e in
       let u = then-fine-iff _ _ .0 (t .1) in
@@ -57,7 +57,7 @@ module _ (n : ℕ) (nodes pool : List ℕ) where
       }
 
   -- a tree that is spelt is not refused
-  pub fine-of-spelling : Spelling n nodes pool → treeVerdict n nodes pool ≡ Fine
+  pub fine-of-spelling : Spelling n nodes pool → spellingVerdict n nodes pool ≡ Fine
   fine-of-spelling g = sym (spelt-decides (g .few) (g .sizes)) ∙ spelt-fine-iff n nodes pool .1 (g .spelt)
 
   -- ---- the answers
@@ -71,7 +71,7 @@ module _ (n : ℕ) (nodes pool : List ℕ) where
 
   -- a tree that is refused is the answer, and the bytes are as found
   pub written-refused :
-      {why : Refusal} (before : List ℕ) → treeVerdict n nodes pool ≡ Refused why →
+      {why : Refusal} (before : List ℕ) → spellingVerdict n nodes pool ≡ Refused why →
       TreeWritten n nodes pool before (said.Refused why) before
   unfolding writeVerdict
   written-refused before e = answer-refused before (then-refused _ e)

@@ -1,6 +1,6 @@
 -- Writing a tree file. Definitions only.
 --   paper                        an answer of the writer, on paper: the bytes written
---   treeVerdict n nodes pool     1 where there are more than the most rules, then 5, then *spelt*: 6 and 7
+--   spellingVerdict n nodes pool     1 where there are more than the most rules, then 5, then *spelt*: 6 and 7
 --   writeVerdict                 the same, then 4 where the room is less than the file's length
 --   writeTree n nodes pool room  what the writer says
 --   writeTreeBytes               the lent bytes after it: the file in front, the rest as found
@@ -26,12 +26,12 @@ abbrev pub paper : Written → Paper
 paper (Refused why) = onPaper why
 paper (Bytes bytes) = success (bytes ∷ [])
 
-unfoldable pub treeVerdict : ℕ → List ℕ → List ℕ → Verdict
-treeVerdict n nodes pool =
+unfoldable pub spellingVerdict : ℕ → List ℕ → List ℕ → Verdict
+spellingVerdict n nodes pool =
     refuseUnless (leb n mostRules) RuleWordsWrong then sizeVerdict nodes pool then speltVerdict n nodes pool
 
 unfoldable pub writeVerdict : ℕ → List ℕ → List ℕ → ℕ → Verdict
-writeVerdict n nodes pool room = treeVerdict n nodes pool then roomVerdict (length (treeText n nodes pool)) room
+writeVerdict n nodes pool room = spellingVerdict n nodes pool then roomVerdict (length (treeText n nodes pool)) room
 
 unfoldable pub writeTree : ℕ → List ℕ → List ℕ → ℕ → Paper
 writeTree n nodes pool room = writeVerdict n nodes pool room giving (length (treeText n nodes pool) ∷ [])

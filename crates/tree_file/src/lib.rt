@@ -1,7 +1,7 @@
 // The tree file: nodes and pool as text. Its lines are `tree` with the numbers of rules, nodes and pool words; a `cut`
 // or a `leaf` for each node; and `end` with the number of lines before it.
-//   write::write_tree    the file of a tree, into lent bytes: 1, 5, 6, 7, 4
-//   read::read_tree      the tree of a file, into lent node words and a lent pool: 9, 10, 4
+//   write::tree_write    the file of a tree, into lent bytes: 1, 5, 6, 7, 4
+//   read::tree_read      the tree of a file, into lent node words and a lent pool: 9, 10, 4
 // A file that reads well is the one that is written of what it says, and what is written reads back. Rests on facts,
 // refusals, fields, rules, trees and text.
 pub mod node;

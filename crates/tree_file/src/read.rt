@@ -43,7 +43,7 @@ pub enum Head {
 
 // The tree of a text: its nodes from the front of `nodes` on, its entries from the front of `pool` on; what is behind
 // them is as found. A refusal leaves both as found: the text is read once without storing, then with.
-pub fn read_tree(text: &[u8], nodes: &mut [u32], pool: &mut [u32]) -> Read
+pub fn tree_read(text: &[u8], nodes: &mut [u32], pool: &mut [u32]) -> Read
     ensures { λ r. ⌜ TreeRead (now (text .entry)) (now (nodes .entry)) (now (pool .entry)) r (now (nodes .exit))
         (now (pool .exit)) ⌝ }
 {

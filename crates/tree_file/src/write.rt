@@ -33,7 +33,7 @@ ghost use Rattle.text.specs.Words.{newline, cutWord, leafWord, fourTabs};
 ghost use Rattle.text.specs.Line.{printLine};
 ghost use Rattle.text.specs.Puts.{Put};
 ghost use Rattle.tree_file.specs.TreeLines.{headLine, endLine, nodeLine, leafMarks, treeText, Spelling};
-ghost use Rattle.tree_file.specs.WriteTree.{treeVerdict, TreeWritten};
+ghost use Rattle.tree_file.specs.WriteTree.{spellingVerdict, TreeWritten};
 ghost use Rattle.tree_file.specs.WriteSteps.{Writable};
 
 pub enum Written {
@@ -43,19 +43,19 @@ pub enum Written {
 
 // The file of a tree, there being so many rules, from the front of `text` on; the rest of `text` is as found. A refusal
 // writes nothing: the file is written once into no room, which counts its bytes, then into the whole.
-pub fn write_tree(rules: usize, nodes: &[u32], pool: &[u32], text: &mut [u8]) -> Written
+pub fn tree_write(rules: usize, nodes: &[u32], pool: &[u32], text: &mut [u8]) -> Written
     ensures { λ r. ⌜ TreeWritten rules (now (nodes .entry)) (now (pool .entry)) (now (text .entry)) r
         (now (text .exit)) ⌝ }
 {
-    match tree_verdict(rules, nodes, pool) {
+    match spelling_verdict(rules, nodes, pool) {
         Verdict::Refused(why) => Written::Refused(why),
         Verdict::Fine => write_fitting(rules, nodes, pool, text),
     }
 }
 
 // Whether there is such a file: the number of rules, the sizes, then *spelt*.
-fn tree_verdict(rules: usize, nodes: &[u32], pool: &[u32]) -> Verdict
-    ensures { λ r. ⌜ r ≡ treeVerdict rules (now (nodes .entry)) (now (pool .entry)) ⌝ }
+fn spelling_verdict(rules: usize, nodes: &[u32], pool: &[u32]) -> Verdict
+    ensures { λ r. ⌜ r ≡ spellingVerdict rules (now (nodes .entry)) (now (pool .entry)) ⌝ }
 {
     if MOST_RULES < rules {
         return Verdict::Refused(Refusal::RuleWordsWrong);

@@ -20,7 +20,7 @@ use Rattle.trees.specs.declared.search.TreeFirst.{TreeFirst}
 use Rattle.trees.specs.declared.search.TreeFirst.the-variants as first
 use Rattle.trees.specs.Words.{startOf, countOf}
 use Rattle.trees.specs.Walk.{walkOf, leafOf, visited}
-use Rattle.trees.specs.Search.{leafVerdict, treeVerdict, leafList, treeList}
+use Rattle.trees.specs.Search.{leafVerdict, reachVerdict, leafList, treeList}
 use Rattle.trees.specs.TreeAll.{treeAllVerdict, treeAll, treeAllWords, TreeAllSearched}
 use Rattle.trees.specs.TreeFirst.{treeFirst, TreeFirstSearched}
 use Rattle.trees.specs.Steps.{AtLeaf, Reaches, Comparable, Kept, LeafListed, LeafFirst}
@@ -32,7 +32,7 @@ use Rattle.trees.proofs.Counting.{counting-refused, counting-fine}
 module _ (rs nodes pool h : List ℕ) where
   -- what a leaf that was reached tells
   pub record AtReached (s k n : ℕ) : Type 0 where
-    pub fine : treeVerdict rs nodes pool h ≡ Fine
+    pub fine : reachVerdict rs nodes pool h ≡ Fine
     pub words : AtLeaf nodes (leafOf (walkOf nodes h)) s k
     pub seen : n ≡ visited (walkOf nodes h)
 
@@ -43,7 +43,7 @@ module _ (rs nodes pool h : List ℕ) where
   module _ {s k n : ℕ} (a : AtReached s k n) where
     -- a leaf that was reached is fine
     leaf-fine : leafVerdict rs nodes pool (leafOf (walkOf nodes h)) ≡ Fine
-    unfolding treeVerdict
+    unfolding reachVerdict
     leaf-fine = then-fine-iff _ _ .0 (then-fine-iff _ _ .0 (a .fine) .1) .1
 
     -- the leaf's entries are this part of the pool
@@ -62,7 +62,7 @@ module _ (rs nodes pool h : List ℕ) where
 
     -- the leaf's entries can be compared with the header
     pub part-comparable : Comparable rs h (take (s + k - s) (drop s pool))
-    unfolding leafVerdict treeVerdict leafList
+    unfolding leafVerdict reachVerdict leafList
     part-comparable =
         record {
           five = legal-iff h .0 (then-fine-iff _ _ .0 (a .fine) .0) .0;
@@ -86,7 +86,7 @@ module _ (rs nodes pool h : List ℕ) where
         }
       where
         room :
-            (treeVerdict rs nodes pool h then roomVerdict (length (treeList rs nodes pool h)) (length before)) ≡
+            (reachVerdict rs nodes pool h then roomVerdict (length (treeList rs nodes pool h)) (length before)) ≡
             roomVerdict (length (treeList rs nodes pool h)) (length before)
         room = then-fine _ (a .fine)
 

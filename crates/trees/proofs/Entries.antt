@@ -11,7 +11,7 @@ use Rattle.facts.proofs.Steps.{keep-none, keep-in, keep-out}
 use Rattle.facts.proofs.Under.{all-under-iff-at}
 use Rattle.rules.specs.Words.{ruleCount}
 use Rattle.rules.specs.Matching.{matches, ruleMatches}
-use Rattle.rules.proofs.There.{rule-matches-of-there}
+use Rattle.rules.proofs.AnyWords.{rule-matches-of-there}
 use Rattle.trees.specs.declared.search.TreeFirst.the-variants.{Rule, NoRule}
 use Rattle.trees.specs.Search.{lookedAt}
 use Rattle.trees.specs.Steps.{Comparable, LeafFirst}

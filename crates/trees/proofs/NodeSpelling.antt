@@ -9,7 +9,7 @@ use mathlib.Core.List.{List}
 use lib.ListN.{length}
 use lib.Dec.{ltb}
 use borrow.Author.Tests.{ltb-true, leb-true, lt-ltb, le-ltb, le-leb, lt-leb}
-use Rattle.facts.proofs.Cases.{Split, atMost, over, split}
+use Rattle.facts.proofs.Cases.{WithinOrOver, atMost, over, within-or-over}
 use Rattle.refusals.specs.declared.Refusal.the-variants.{NodeWrong, LeafWrong}
 use Rattle.refusals.specs.declared.Verdict.the-variants.{Fine, Refused}
 use Rattle.refusals.specs.Order.{refuseUnless}
@@ -85,9 +85,9 @@ module _ (n : ℕ) (nodes pool : List ℕ) (i : ℕ) where
 
   -- a node that is spelt is fine
   fine-of-node : SpeltNode → nodeVerdict n nodes pool i ≡ Fine
-  fine-of-node s = go (split leafMark (fieldOf nodes i))
+  fine-of-node s = go (within-or-over leafMark (fieldOf nodes i))
     where
-      go : Split leafMark (fieldOf nodes i) → nodeVerdict n nodes pool i ≡ Fine
+      go : WithinOrOver leafMark (fieldOf nodes i) → nodeVerdict n nodes pool i ≡ Fine
       go (atMost l) =
           sym (leaf-fine (omega (arith, s .first)) (leaf-spelt-iff n nodes pool i .1 (s .leaf l)))
       go (over l) = sym (child-fine l (s .child l))
@@ -100,9 +100,9 @@ module _ (n : ℕ) (nodes pool : List ℕ) (i : ℕ) where
   pub counts-within :
       nodeVerdict n nodes pool i ≡ Fine → countsBelow nodes i ≤ length pool →
       countsBelow nodes i + leafCount nodes i ≤ length pool
-  counts-within e b = go (split leafMark (fieldOf nodes i))
+  counts-within e b = go (within-or-over leafMark (fieldOf nodes i))
     where
-      go : Split leafMark (fieldOf nodes i) → countsBelow nodes i + leafCount nodes i ≤ length pool
+      go : WithinOrOver leafMark (fieldOf nodes i) → countsBelow nodes i + leafCount nodes i ≤ length pool
       go (atMost l) =
           let s = node-fine-iff .0 e .leaf l in
           omega (arith, s .start, s .within, leaf-counts nodes i l)

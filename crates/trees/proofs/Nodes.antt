@@ -3,7 +3,7 @@ use Prim.Native.Nat.{ℕ, _≤_, _<_}
 use mathlib.Core.Path.{_≡_, refl, subst}
 use mathlib.Core.List.{List}
 use borrow.Author.Tests.{le-leb, lt-leb}
-use Rattle.facts.proofs.Cases.{Split, atMost, over, split}
+use Rattle.facts.proofs.Cases.{WithinOrOver, atMost, over, within-or-over}
 use Rattle.trees.specs.declared.words.Node.{Node}
 use Rattle.trees.specs.declared.words.Node.the-variants.{Missing, Leaf, Cut}
 use Rattle.trees.specs.Words.{leafMark, nodeCount, fieldOf, valueOf, childOf, startOf, countOf}
@@ -54,9 +54,9 @@ module _ (nodes : List ℕ) (i : ℕ) where
 
   -- the words of a node that is there tell a leaf from a cut
   there-told : i < nodeCount nodes → Told (nodeAt nodes i)
-  there-told l = go (split leafMark (fieldOf nodes i))
+  there-told l = go (within-or-over leafMark (fieldOf nodes i))
     where
-      go : Split leafMark (fieldOf nodes i) → Told (nodeAt nodes i)
+      go : WithinOrOver leafMark (fieldOf nodes i) → Told (nodeAt nodes i)
       go (atMost m) =
           subst Told (node-leaf l m refl refl)
           (Told.leaf (record { there = l; mark = m; start = refl; count = refl }))
@@ -66,9 +66,9 @@ module _ (nodes : List ℕ) (i : ℕ) where
 
   -- the words tell what stands there
   told : Told (nodeAt nodes i)
-  told = go (split (nodeCount nodes) i)
+  told = go (within-or-over (nodeCount nodes) i)
     where
-      go : Split (nodeCount nodes) i → Told (nodeAt nodes i)
+      go : WithinOrOver (nodeCount nodes) i → Told (nodeAt nodes i)
       go (atMost l) = subst Told (node-missing l) (Told.missing l)
       go (over l) = there-told l
 

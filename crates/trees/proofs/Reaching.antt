@@ -22,7 +22,7 @@ use Rattle.trees.specs.declared.search.Reached.{Reached}
 use Rattle.trees.specs.declared.search.Reached.the-variants as reached
 use Rattle.trees.specs.Words.{nodeCount, startOf, countOf, entries}
 use Rattle.trees.specs.Walk.{Walk, lost, came, past, stepOf, walk, walkOf, leafOf, visited}
-use Rattle.trees.specs.Search.{walkVerdict, leafVerdict, treeVerdict}
+use Rattle.trees.specs.Search.{walkVerdict, leafVerdict, reachVerdict}
 use Rattle.trees.specs.Steps.{walked, AtLeaf, LeafJudged, Reaches}
 use Rattle.trees.proofs.Spelling.{part-is-entries}
 use Rattle.trees.proofs.Walking.{leaf-means}
@@ -116,14 +116,14 @@ leaf-there nodes h e = came-there (nodeCount nodes) nodes h 0 e
 module _ (rs nodes pool h : List ℕ) where
   -- a header that is refused is the refusal
   pub reach-header : {why : Refusal} → headerVerdict h ≡ Refused why → Reaches rs nodes pool h (reached.Refused why)
-  unfolding treeVerdict
+  unfolding reachVerdict
   reach-header e = Reaches.refuses (then-refused _ e)
 
   module _ (legal : headerVerdict h ≡ Fine) where
     -- a walk that is lost is refused there
     pub reach-lost :
         {i : ℕ} → ends.Lost i ≡ walked (walkOf nodes h) → Reaches rs nodes pool h (reached.Refused (NodeWrong i))
-    unfolding treeVerdict
+    unfolding reachVerdict
     reach-lost e =
         Reaches.refuses (then-fine _ legal ∙ then-refused _ (ap walkVerdict (walked-lost (walkOf nodes h) e)))
 
@@ -131,7 +131,7 @@ module _ (rs nodes pool h : List ℕ) where
     pub reach-leaf :
         {leaf n : ℕ} {r : Reached} → ends.Came leaf n ≡ walked (walkOf nodes h) → LeafJudged rs nodes pool leaf n r →
         Reaches rs nodes pool h r
-    unfolding treeVerdict
+    unfolding reachVerdict
     reach-leaf e (LeafJudged.refuses j) =
         let w = walked-came (walkOf nodes h) e in
         Reaches.refuses (then-fine _ legal ∙ then-fine _ (w .0) ∙ ap (leafVerdict rs nodes pool) (w .1) ∙ j)

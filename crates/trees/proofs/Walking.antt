@@ -7,7 +7,7 @@ use mathlib.Core.List.{List}
 use lib.ListN.{getD}
 use lib.Dec.{leb}
 use borrow.Author.Tests.{lt-ltb, le-ltb, le-leb, lt-leb, eq-eqb, ne-eqb}
-use Rattle.facts.proofs.Cases.{Order, below, same, above, order, Split, atMost, over, split}
+use Rattle.facts.proofs.Cases.{Order, below, same, above, order, WithinOrOver, atMost, over, within-or-over}
 use Rattle.trees.specs.declared.walk.Step.{Step}
 use Rattle.trees.specs.declared.walk.Step.the-variants.{Wrong, Leaf, Next}
 use Rattle.trees.specs.Words.{leafMark, nodeCount, fieldOf, valueOf, childOf}
@@ -91,9 +91,9 @@ module _ (nodes h : List ℕ) (i : ℕ) where
 
   -- the right child of a cut that is there tells whether the walk goes on
   cut-told : i < nodeCount nodes → fieldOf nodes i < leafMark → Told (stepOf nodes h i)
-  cut-told l u = go (split (childOf nodes i) i)
+  cut-told l u = go (within-or-over (childOf nodes i) i)
     where
-      go : Split (childOf nodes i) i → Told (stepOf nodes h i)
+      go : WithinOrOver (childOf nodes i) i → Told (stepOf nodes h i)
       go (atMost m) = subst Told (step-back l u m) Told.wrong
       go (over m) =
           subst Told (step-on l u m refl) (Told.next (record { there = l; cut = u; above = m; side = refl }))
@@ -109,9 +109,9 @@ module _ (nodes h : List ℕ) (i : ℕ) where
 
   -- each step tells what its node is
   told : Told (stepOf nodes h i)
-  told = go (split (nodeCount nodes) i)
+  told = go (within-or-over (nodeCount nodes) i)
     where
-      go : Split (nodeCount nodes) i → Told (stepOf nodes h i)
+      go : WithinOrOver (nodeCount nodes) i → Told (stepOf nodes h i)
       go (atMost l) = subst Told (step-missing l) Told.wrong
       go (over l) = there-told l
 

@@ -1,7 +1,7 @@
 -- The tree search, up to its leaf: what both searches refuse, and what they compare. Definitions only.
 --   walkVerdict w             6 at the node where the walk is lost
 --   leafVerdict rs nodes pool i    7 at leaf i: start plus count passes the pool's end, or an entry names no whole rule
---   treeVerdict rs nodes pool h    3, then 6 in the walk, then 7 at the leaf that the walk comes to
+--   reachVerdict rs nodes pool h    3, then 6 in the walk, then 7 at the leaf that the walk comes to
 --   leafList nodes pool h     the entries of the leaf that header h comes to
 --   treeList rs nodes pool h  those of them that match, in their order
 --   lookedAt p l              the entries that first-match compares: up to and including the first that passes
@@ -30,8 +30,8 @@ leafVerdict rs nodes pool i =
     refuseUnless (leb (startOf nodes i + countOf nodes i) (length pool)) (LeafWrong i) then
     refuseUnless (allUnder (ruleCount rs) (entries nodes pool i)) (LeafWrong i)
 
-unfoldable pub treeVerdict : List ℕ → List ℕ → List ℕ → List ℕ → Verdict
-treeVerdict rs nodes pool h =
+unfoldable pub reachVerdict : List ℕ → List ℕ → List ℕ → List ℕ → Verdict
+reachVerdict rs nodes pool h =
     headerVerdict h then walkVerdict (walkOf nodes h) then leafVerdict rs nodes pool (leafOf (walkOf nodes h))
 
 unfoldable pub leafList : List ℕ → List ℕ → List ℕ → List ℕ

@@ -28,7 +28,7 @@ use Rattle.trees.specs.declared.search.TreeListed.{TreeListed}
 use Rattle.trees.specs.declared.search.TreeFirst.{TreeFirst}
 use Rattle.trees.specs.Words.{nodeWord, startOf, countOf}
 use Rattle.trees.specs.Walk.{Walk, lost, came, walkOf, leafOf, visited}
-use Rattle.trees.specs.Search.{leafVerdict, treeVerdict, lookedAt}
+use Rattle.trees.specs.Search.{leafVerdict, reachVerdict, lookedAt}
 use Rattle.trees.specs.Counted.{counted, counting}
 use Rattle.trees.specs.TreeAll as all
 use Rattle.trees.specs.TreeFirst as first
@@ -54,9 +54,9 @@ pub data LeafJudged (rs nodes pool : List ℕ) (leaf seen : ℕ) : Reached → T
       LeafJudged rs nodes pool leaf seen (Leaf start count n)
 
 pub data Reaches (rs nodes pool h : List ℕ) : Reached → Type 0 where
-  refuses : {why : Refusal} → treeVerdict rs nodes pool h ≡ verdict.Refused why → Reaches rs nodes pool h (Refused why)
+  refuses : {why : Refusal} → reachVerdict rs nodes pool h ≡ verdict.Refused why → Reaches rs nodes pool h (Refused why)
   comes :
-      {start count n : ℕ} → treeVerdict rs nodes pool h ≡ verdict.Fine →
+      {start count n : ℕ} → reachVerdict rs nodes pool h ≡ verdict.Fine →
       AtLeaf nodes (leafOf (walkOf nodes h)) start count → n ≡ visited (walkOf nodes h) →
       Reaches rs nodes pool h (Leaf start count n)
 

@@ -15,7 +15,7 @@ use Rattle.refusals.specs.Order.{roomVerdict, _then_, leaving}
 use Rattle.trees.specs.declared.search.TreeListed.{TreeListed}
 use Rattle.trees.specs.declared.search.TreeListed.the-variants.{Refused, Found}
 use Rattle.trees.specs.Walk.{walkOf, visited}
-use Rattle.trees.specs.Search.{treeVerdict, leafList, treeList}
+use Rattle.trees.specs.Search.{reachVerdict, leafList, treeList}
 use Rattle.trees.specs.Counted.{Counted, counted, counting}
 
 abbrev pub paper : TreeListed → Counted
@@ -24,7 +24,7 @@ paper (Found count nodes compared) = counted (success (count ∷ [])) nodes comp
 
 unfoldable pub treeAllVerdict : List ℕ → List ℕ → List ℕ → List ℕ → ℕ → Verdict
 treeAllVerdict rs nodes pool h room =
-    treeVerdict rs nodes pool h then roomVerdict (length (treeList rs nodes pool h)) room
+    reachVerdict rs nodes pool h then roomVerdict (length (treeList rs nodes pool h)) room
 
 unfoldable pub treeAll : List ℕ → List ℕ → List ℕ → List ℕ → ℕ → Counted
 treeAll rs nodes pool h room =

@@ -13,7 +13,7 @@ use Rattle.rules.specs.LineFirst.{firstOf}
 use Rattle.trees.specs.declared.search.TreeFirst.{TreeFirst}
 use Rattle.trees.specs.declared.search.TreeFirst.the-variants.{Refused, Rule, NoRule}
 use Rattle.trees.specs.Walk.{walkOf, visited}
-use Rattle.trees.specs.Search.{treeVerdict, leafList, treeList, lookedAt}
+use Rattle.trees.specs.Search.{reachVerdict, leafList, treeList, lookedAt}
 use Rattle.trees.specs.Counted.{Counted, counted, counting}
 
 abbrev pub paper : TreeFirst → Counted
@@ -23,7 +23,7 @@ paper (NoRule nodes compared) = counted (success []) nodes compared
 
 unfoldable pub treeFirst : List ℕ → List ℕ → List ℕ → List ℕ → Counted
 treeFirst rs nodes pool h =
-    counting (treeVerdict rs nodes pool h) (firstOf (treeList rs nodes pool h)) (visited (walkOf nodes h))
+    counting (reachVerdict rs nodes pool h) (firstOf (treeList rs nodes pool h)) (visited (walkOf nodes h))
     (length (lookedAt (matches rs h) (leafList nodes pool h)))
 
 pub record TreeFirstSearched (rs nodes pool h : List ℕ) (r : TreeFirst) : Type 0 where

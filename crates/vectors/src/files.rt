@@ -4,18 +4,18 @@ use crate::say::end;
 use crate::say::refused;
 use crate::say::value;
 use rule_file::read::Read as ListRead;
-use rule_file::read::read_rules;
+use rule_file::read::rules_read;
 use rule_file::write::Written as ListWritten;
-use rule_file::write::write_rules;
+use rule_file::write::rules_write;
 use tree_file::read::Read as TreeRead;
-use tree_file::read::read_tree;
+use tree_file::read::tree_read;
 use tree_file::write::Written as TreeWritten;
-use tree_file::write::write_tree;
+use tree_file::write::tree_write;
 
 // The number of rules of a text.
 pub(crate) fn read_list(example: &[u8], text: &[u8], list: &mut [u32]) {
-    begin(example, b"read_rules");
-    match read_rules(text, list) {
+    begin(example, b"rules_read");
+    match rules_read(text, list) {
         ListRead::Refused(why) => refused(why),
         ListRead::Rules { rules } => {
             value(0);
@@ -27,8 +27,8 @@ pub(crate) fn read_list(example: &[u8], text: &[u8], list: &mut [u32]) {
 
 // The bytes of a list's text.
 pub(crate) fn write_list(example: &[u8], list: &[u32], text: &mut [u8]) {
-    begin(example, b"write_rules");
-    match write_rules(list, text) {
+    begin(example, b"rules_write");
+    match rules_write(list, text) {
         ListWritten::Refused(why) => refused(why),
         ListWritten::Bytes { bytes } => {
             value(0);
@@ -40,8 +40,8 @@ pub(crate) fn write_list(example: &[u8], list: &[u32], text: &mut [u8]) {
 
 // The numbers of rules, nodes and pool words of a text.
 pub(crate) fn read_nodes(example: &[u8], text: &[u8], nodes: &mut [u32], pool: &mut [u32]) {
-    begin(example, b"read_tree");
-    match read_tree(text, nodes, pool) {
+    begin(example, b"tree_read");
+    match tree_read(text, nodes, pool) {
         TreeRead::Refused(why) => refused(why),
         TreeRead::Tree { rules, nodes, pool } => {
             value(0);
@@ -61,8 +61,8 @@ pub(crate) fn write_nodes(
     pool: &[u32],
     text: &mut [u8],
 ) {
-    begin(example, b"write_tree");
-    match write_tree(rules, nodes, pool, text) {
+    begin(example, b"tree_write");
+    match tree_write(rules, nodes, pool, text) {
         TreeWritten::Refused(why) => refused(why),
         TreeWritten::Bytes { bytes } => {
             value(0);

@@ -49,13 +49,13 @@ pub fn rules() {
     let mut last_bad = list;
     last_bad[5_118] = 256;
     say::rule_check("512 rules, the last not good", &last_bad);
-    say::read_rules("a file of 512 rules, cut after its first line", b"rules\t512\n", 5_120);
+    say::rules_read("a file of 512 rules, cut after its first line", b"rules\t512\n", 5_120);
 
     let more = many(513);
     say::rule_check("513 rules", &more);
     say::search_list("513 rules", &more, &header);
     say::tree_check("513 rules", &more, &Tree { nodes: vec![[5, 0, 0]], pool: vec![] });
-    say::read_rules("a file of 513 rules, cut after its first line", b"rules\t513\n", 5_130);
+    say::rules_read("a file of 513 rules, cut after its first line", b"rules\t513\n", 5_130);
 }
 
 /// So many cuts, each the right child of the one above, with an empty leaf on its left; then the last leaf.

@@ -84,33 +84,33 @@ pub fn search_tree(example: &str, rules: &[u32], tree: &Tree, header: &[u32]) {
 }
 
 /// Writes a list's file into so many bytes, which it hands back.
-pub fn write_rules(example: &str, rules: &[u32], room: usize) -> Vec<u8> {
+pub fn rules_write(example: &str, rules: &[u32], room: usize) -> Vec<u8> {
     let mut text = vec![0; room];
     let answer = oracle::rules_write(rules, &mut text);
-    line(example, "write_rules", answer, &numbers(&[answer.a]), &[]);
+    line(example, "rules_write", answer, &numbers(&[answer.a]), &[]);
     text
 }
 
 /// Reads a list's file into so many words, which it hands back.
-pub fn read_rules(example: &str, text: &[u8], room: usize) -> Vec<u32> {
+pub fn rules_read(example: &str, text: &[u8], room: usize) -> Vec<u32> {
     let mut rules = vec![0; room];
     let answer = oracle::rules_read(text, &mut rules);
-    line(example, "read_rules", answer, &numbers(&[answer.a]), &[]);
+    line(example, "rules_read", answer, &numbers(&[answer.a]), &[]);
     rules
 }
 
 /// Writes a tree's file into so many bytes, which it hands back.
-pub fn write_tree(example: &str, rules: u64, tree: &Tree, room: usize) -> Vec<u8> {
+pub fn tree_write(example: &str, rules: u64, tree: &Tree, room: usize) -> Vec<u8> {
     let mut text = vec![0; room];
     let answer = oracle::tree_write(rules, &tree.nodes.concat(), &tree.pool, &mut text);
-    line(example, "write_tree", answer, &numbers(&[answer.a]), &[]);
+    line(example, "tree_write", answer, &numbers(&[answer.a]), &[]);
     text
 }
 
 /// Reads a tree's file into so many node words and so many pool words, which it hands back.
-pub fn read_tree(example: &str, text: &[u8], node_room: usize, pool_room: usize) -> (Vec<u32>, Vec<u32>) {
+pub fn tree_read(example: &str, text: &[u8], node_room: usize, pool_room: usize) -> (Vec<u32>, Vec<u32>) {
     let (mut nodes, mut pool) = (vec![0; node_room], vec![0; pool_room]);
     let answer = oracle::tree_read(text, &mut nodes, &mut pool);
-    line(example, "read_tree", answer, &numbers(&[answer.a, answer.b, answer.c]), &[]);
+    line(example, "tree_read", answer, &numbers(&[answer.a, answer.b, answer.c]), &[]);
     (nodes, pool)
 }

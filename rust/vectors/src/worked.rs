@@ -79,27 +79,27 @@ pub fn checks() {
 
 pub fn rule_file() {
     let room = RULES_FILE.len();
-    let text = say::write_rules("the list's file", &rules(), room);
+    let text = say::rules_write("the list's file", &rules(), room);
     print!("{RULES_FILE}");
     assert_eq!(text, RULES_FILE.as_bytes());
-    let list = say::read_rules("the list's file", &text, 30);
+    let list = say::rules_read("the list's file", &text, 30);
     say::search_list("the list that was read", &list, &header("10.1.2.3", 80, 6));
-    say::write_rules("the list's file, room for one byte less", &rules(), room - 1);
-    say::read_rules("the list's file, room for one word less", &text, 29);
-    say::read_rules("the list's file without the last newline", &text[..room - 1], 30);
-    say::read_rules("no text", &[], 0);
+    say::rules_write("the list's file, room for one byte less", &rules(), room - 1);
+    say::rules_read("the list's file, room for one word less", &text, 29);
+    say::rules_read("the list's file without the last newline", &text[..room - 1], 30);
+    say::rules_read("no text", &[], 0);
 }
 
 pub fn tree_file() {
     let room = TREE_FILE.len();
-    let text = say::write_tree("the tree's file", 3, &tree(), room);
+    let text = say::tree_write("the tree's file", 3, &tree(), room);
     print!("{TREE_FILE}");
     assert_eq!(text, TREE_FILE.as_bytes());
-    let (nodes, pool) = say::read_tree("the tree's file", &text, 15, 5);
+    let (nodes, pool) = say::tree_read("the tree's file", &text, 15, 5);
     let nodes = nodes.chunks(3).map(|node| [node[0], node[1], node[2]]).collect();
     say::tree_check("the tree that was read", &rules(), &Tree { nodes, pool });
-    say::write_tree("the tree's file, room for one byte less", 3, &tree(), room - 1);
-    say::read_tree("the tree's file, room for one node word less", &text, 14, 5);
-    say::read_tree("the tree's file, room for one pool word less", &text, 15, 4);
-    say::read_tree("the tree's file without the last newline", &text[..room - 1], 15, 5);
+    say::tree_write("the tree's file, room for one byte less", 3, &tree(), room - 1);
+    say::tree_read("the tree's file, room for one node word less", &text, 14, 5);
+    say::tree_read("the tree's file, room for one pool word less", &text, 15, 4);
+    say::tree_read("the tree's file without the last newline", &text[..room - 1], 15, 5);
 }

@@ -5,8 +5,8 @@ use Rattle.exports.proofs.Answers.{answered-left}
 use Rattle.exports.proofs.rule_text.wick_rules_read.Statement.{statement}
 use Rattle.exports.proofs.rule_text.wick_rules_read.Tie as tie
 
-read-rules-requires : tie.Need-read-rules-requires
-read-rules-requires c κs = search needs
+rules-read-requires : tie.Need-rules-read-requires
+rules-read-requires c κs = search needs
 
 of-read-requires : tie.Need-of-read-requires
 of-read-requires c κs = search needs
@@ -16,9 +16,9 @@ same-length c = search needs
 
 returns : tie.Need-returns
 returns c =
-    let said = c .before .before .before .read-rules .ensures in
+    let said = c .before .before .before .rules-read .ensures in
     answered-left (λ p. p) (c .of-read .ensures) (said .answers) (said .leaves)
 
 pub wick-rules-read-spec : {M : Type 1} → statement M
 wick-rules-read-spec =
-    tie.close (tie.spec read-rules-requires of-read-requires same-length returns)
+    tie.close (tie.spec rules-read-requires of-read-requires same-length returns)

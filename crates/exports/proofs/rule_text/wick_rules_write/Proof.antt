@@ -5,8 +5,8 @@ use Rattle.exports.proofs.Answers.{answered-left}
 use Rattle.exports.proofs.rule_text.wick_rules_write.Statement.{statement}
 use Rattle.exports.proofs.rule_text.wick_rules_write.Tie as tie
 
-write-rules-requires : tie.Need-write-rules-requires
-write-rules-requires c κs = search needs
+rules-write-requires : tie.Need-rules-write-requires
+rules-write-requires c κs = search needs
 
 of-written-requires : tie.Need-of-written-requires
 of-written-requires c κs = search needs
@@ -16,9 +16,9 @@ same-length c = search needs
 
 returns : tie.Need-returns
 returns c =
-    let said = c .before .before .before .write-rules .ensures in
+    let said = c .before .before .before .rules-write .ensures in
     answered-left (λ p. p) (c .of-written .ensures) (said .answers) (said .leaves)
 
 pub wick-rules-write-spec : {M : Type 1} → statement M
 wick-rules-write-spec =
-    tie.close (tie.spec write-rules-requires of-written-requires same-length returns)
+    tie.close (tie.spec rules-write-requires of-written-requires same-length returns)

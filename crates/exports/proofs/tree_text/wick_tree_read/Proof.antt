@@ -5,8 +5,8 @@ use Rattle.exports.proofs.Answers.{answered-both}
 use Rattle.exports.proofs.tree_text.wick_tree_read.Statement.{statement}
 use Rattle.exports.proofs.tree_text.wick_tree_read.Tie as tie
 
-read-tree-requires : tie.Need-read-tree-requires
-read-tree-requires c κs = search needs
+tree-read-requires : tie.Need-tree-read-requires
+tree-read-requires c κs = search needs
 
 of-read-requires : tie.Need-of-read-requires
 of-read-requires c κs = search needs
@@ -19,9 +19,9 @@ same-length-2 c = search needs
 
 returns : tie.Need-returns
 returns c =
-    let said = c .before .before .before .before .before .read-tree .ensures in
+    let said = c .before .before .before .before .before .tree-read .ensures in
     answered-both (λ p. p) (c .of-read .ensures) (said .answers) (said .leaves-nodes) (said .leaves-pool)
 
 pub wick-tree-read-spec : {M : Type 1} → statement M
 wick-tree-read-spec =
-    tie.close (tie.spec read-tree-requires of-read-requires same-length same-length-2 returns)
+    tie.close (tie.spec tree-read-requires of-read-requires same-length same-length-2 returns)

@@ -5,8 +5,8 @@ use Rattle.exports.proofs.Answers.{answered-left}
 use Rattle.exports.proofs.tree_text.wick_tree_write.Statement.{statement}
 use Rattle.exports.proofs.tree_text.wick_tree_write.Tie as tie
 
-write-tree-requires : tie.Need-write-tree-requires
-write-tree-requires c κs = search needs
+tree-write-requires : tie.Need-tree-write-requires
+tree-write-requires c κs = search needs
 
 of-written-requires : tie.Need-of-written-requires
 of-written-requires c κs = search needs
@@ -16,9 +16,9 @@ same-length c = search needs
 
 returns : tie.Need-returns
 returns c =
-    let said = c .before .before .before .write-tree .ensures in
+    let said = c .before .before .before .tree-write .ensures in
     answered-left (λ p. p) (c .of-written .ensures) (said .answers) (said .leaves)
 
 pub wick-tree-write-spec : {M : Type 1} → statement M
 wick-tree-write-spec =
-    tie.close (tie.spec write-tree-requires of-written-requires same-length returns)
+    tie.close (tie.spec tree-write-requires of-written-requires same-length returns)

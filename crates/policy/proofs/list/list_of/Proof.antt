@@ -5,8 +5,8 @@ use Rattle.policy.proofs.Listing.{list-refused, list-found, list-within
 use Rattle.policy.proofs.list.list_of.Statement.{statement}
 use Rattle.policy.proofs.list.list_of.Tie as tie
 
-read-rules-requires : tie.Need-read-rules-requires
-read-rules-requires c κs = search needs
+rules-read-requires : tie.Need-rules-read-requires
+rules-read-requires c κs = search needs
 
 enum-known-why : tie.Need-enum-known-why
 enum-known-why c = search needs
@@ -17,26 +17,26 @@ enum-known-count c = search needs
 mul-t9 : tie.Need-mul-t9
 mul-t9 c =
     let w = c .before .before .before .before .before in
-    let fits = list-within (w .read-rules .ensures) (c .before .count .given .1) in
+    let fits = list-within (w .rules-read .ensures) (c .before .count .given .1) in
     omega (arith, fits)
 
 same-length : tie.Need-same-length
 same-length c = search needs
 
 returns : tie.Need-returns
-returns c = list-refused (c .before .before .before .before .before .read-rules .ensures) (c .before .why .given .1)
+returns c = list-refused (c .before .before .before .before .before .rules-read .ensures) (c .before .why .given .1)
 
 same-length-2 : tie.Need-same-length-2
 same-length-2 c = search needs
 
 returns-2 : tie.Need-returns-2
-returns-2 c = list-found (c .before .before .before .before .before .read-rules .ensures) (c .before .count .given .1)
+returns-2 c = list-found (c .before .before .before .before .before .rules-read .ensures) (c .before .count .given .1)
 
 pub list-of-spec : {M : Type 1} → statement M
 list-of-spec =
     tie.close
     (tie.spec
-    read-rules-requires
+    rules-read-requires
     enum-known-why
     enum-known-count
     mul-t9

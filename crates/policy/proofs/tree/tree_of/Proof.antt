@@ -5,8 +5,8 @@ use Rattle.policy.proofs.Taking.{tree-refused, tree-found, tree-within}
 use Rattle.policy.proofs.tree.tree_of.Statement.{statement}
 use Rattle.policy.proofs.tree.tree_of.Tie as tie
 
-read-tree-requires : tie.Need-read-tree-requires
-read-tree-requires c κs = search needs
+tree-read-requires : tie.Need-tree-read-requires
+tree-read-requires c κs = search needs
 
 enum-known-why : tie.Need-enum-known-why
 enum-known-why c = search needs
@@ -17,7 +17,7 @@ enum-known-count c = search needs
 mul-t13 : tie.Need-mul-t13
 mul-t13 c =
     let w = c .before .before .before .before .before .before .before in
-    let fits = tree-within (w .read-tree .ensures) (c .before .count .given .1) in
+    let fits = tree-within (w .tree-read .ensures) (c .before .count .given .1) in
     omega (arith, fits)
 
 same-length : tie.Need-same-length
@@ -29,7 +29,7 @@ same-length-2 c = search needs
 returns : tie.Need-returns
 returns c =
     let w = c .before .before .before .before .before .before .before in
-    tree-refused (w .read-tree .ensures) (c .before .why .given .1)
+    tree-refused (w .tree-read .ensures) (c .before .why .given .1)
 
 same-length-3 : tie.Need-same-length-3
 same-length-3 c = search needs
@@ -40,13 +40,13 @@ same-length-4 c = search needs
 returns-2 : tie.Need-returns-2
 returns-2 c =
     let w = c .before .before .before .before .before .before .before in
-    tree-found (w .read-tree .ensures) (c .before .count .given .1)
+    tree-found (w .tree-read .ensures) (c .before .count .given .1)
 
 pub tree-of-spec : {M : Type 1} → statement M
 tree-of-spec =
     tie.close
     (tie.spec
-    read-tree-requires
+    tree-read-requires
     enum-known-why
     enum-known-count
     mul-t13

@@ -5,8 +5,8 @@ use native.Mathlib.Nat.{sub-zero}
 use native.Mathlib.Omega.{arith}
 use mathlib.Core.Path.{_≡_, refl, sym, ap, _∙_}
 use mathlib.Core.Logic.{⊎-elim}
-use Rattle.facts.specs.Lists.{run}
-use Rattle.facts.proofs.Steps.{run-step, run-end}
+use Rattle.facts.specs.Lists.{upFrom}
+use Rattle.facts.proofs.Steps.{up-step, up-end}
 use Rattle.facts.proofs.Counting.{Counted, counted-first, counted-in, counted-out, counted-last}
 use Rattle.rules.specs.Words.{ruleCount}
 use Rattle.rules.specs.Matching.{matches, matching}
@@ -16,7 +16,7 @@ use Rattle.rules.proofs.line.count_matches.Tie as tie
 abbrev Inv-loop : tie.InvT-loop
 Inv-loop rules header count n₀ r₀ n r =
     (count ≡ ruleCount rules) × (r ≤ ruleCount rules) × (n ≤ r) ×
-    Counted (matches rules header) (run 0 (ruleCount rules)) (run r (ruleCount rules - r)) n
+    Counted (matches rules header) (upFrom 0 (ruleCount rules)) (upFrom r (ruleCount rules - r)) n
 
 abbrev μ-loop : tie.MeasureT-loop
 μ-loop rules header count n₀ r₀ n r = ruleCount rules - r
@@ -39,7 +39,7 @@ loop-less c = omega arith
 loop-again : tie.Need-loop-again Inv-loop μ-loop
 loop-again c =
     let h = c .before .before .before in
-    let step = run-step (ruleCount (h .before .before .before .args .rules .now)) (h .loop .r) (omega arith) in
+    let step = up-step (ruleCount (h .before .before .before .args .rules .now)) (h .loop .r) (omega arith) in
     let said = sym (c .before .matches .ensures) in
     ⊎-elim
     (λ w. (refl, omega arith, omega (arith, w .1), rw (w .1) (counted-in (h .loop .inv .3) step (said ∙ w .0 .taken))))
@@ -48,7 +48,7 @@ loop-again c =
 
 returns : tie.Need-returns Inv-loop μ-loop
 unfolding matching
-returns c = counted-last (c .before .loop .inv .3) (run-end _ _ (omega arith))
+returns c = counted-last (c .before .loop .inv .3) (up-end _ _ (omega arith))
 
 pub count-matches-spec : {M : Type 1} → statement M
 count-matches-spec =

@@ -4,8 +4,8 @@ use Prim.Native.Nat.{_≤_, _-_}
 use native.Mathlib.Nat.{sub-zero}
 use native.Mathlib.Omega.{arith}
 use mathlib.Core.Path.{_≡_, refl, sym, ap, _∙_}
-use Rattle.facts.specs.Lists.{run}
-use Rattle.facts.proofs.Steps.{run-step, run-end}
+use Rattle.facts.specs.Lists.{upFrom}
+use Rattle.facts.proofs.Steps.{up-step, up-end}
 use Rattle.facts.proofs.Seeking.{NoneYet, none-first, first-found, none-step, none-last}
 use Rattle.rules.specs.Words.{ruleCount}
 use Rattle.rules.specs.Matching.{matches, matching}
@@ -16,7 +16,7 @@ use Rattle.rules.proofs.line.first_match.Tie as tie
 abbrev Inv-loop : tie.InvT-loop
 Inv-loop rules header count r₀ r =
     (count ≡ ruleCount rules) × (r ≤ ruleCount rules) ×
-    NoneYet (matches rules header) (run 0 (ruleCount rules)) (run r (ruleCount rules - r))
+    NoneYet (matches rules header) (upFrom 0 (ruleCount rules)) (upFrom r (ruleCount rules - r))
 
 abbrev μ-loop : tie.MeasureT-loop
 μ-loop rules header count r₀ r = ruleCount rules - r
@@ -31,7 +31,7 @@ returns : tie.Need-returns Inv-loop μ-loop
 unfolding matching
 returns c =
     let h = c .before .before .before in
-    let step = run-step (ruleCount (h .before .before .before .args .rules .now)) (h .loop .r) (omega arith) in
+    let step = up-step (ruleCount (h .before .before .before .args .rules .now)) (h .loop .r) (omega arith) in
     found-first _ _ (first-found (h .loop .inv .2) step (sym (c .before .matches .ensures) ∙ c .if1 .taken))
 
 add-r : tie.Need-add-r Inv-loop μ-loop
@@ -43,12 +43,12 @@ loop-less c = omega arith
 loop-again : tie.Need-loop-again Inv-loop μ-loop
 loop-again c =
     let h = c .before .before .before in
-    let step = run-step (ruleCount (h .before .before .before .args .rules .now)) (h .loop .r) (omega arith) in
+    let step = up-step (ruleCount (h .before .before .before .args .rules .now)) (h .loop .r) (omega arith) in
     (refl, omega arith, none-step (h .loop .inv .2) step (sym (c .before .matches .ensures) ∙ c .if1 .left))
 
 returns-2 : tie.Need-returns-2 Inv-loop μ-loop
 unfolding matching
-returns-2 c = found-none _ _ (none-last (c .before .loop .inv .2) (run-end _ _ (omega arith)))
+returns-2 c = found-none _ _ (none-last (c .before .loop .inv .2) (up-end _ _ (omega arith)))
 
 pub first-match-spec : {M : Type 1} → statement M
 first-match-spec =

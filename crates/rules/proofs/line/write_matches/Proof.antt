@@ -7,8 +7,8 @@ use native.Mathlib.Omega.{arith}
 use mathlib.Core.Path.{_≡_, refl, sym, ap, _∙_}
 use mathlib.Core.Logic.{⊎-elim}
 use lib.ListN.{length}
-use Rattle.facts.specs.Lists.{run}
-use Rattle.facts.proofs.Steps.{run-step, run-end}
+use Rattle.facts.specs.Lists.{upFrom}
+use Rattle.facts.proofs.Steps.{up-step, up-end}
 use Rattle.facts.proofs.Counting.{counted-last}
 use Rattle.facts.proofs.Filling.{Filled, filled-first, filled-room, filled-in, filled-out, filled-last}
 use Rattle.rules.specs.Words.{ruleCount}
@@ -19,7 +19,7 @@ use Rattle.rules.proofs.line.write_matches.Tie as tie
 abbrev Inv-loop : tie.InvT-loop
 Inv-loop rules header out₀ count n₀ r₀ out n r =
     (count ≡ ruleCount rules) × (r ≤ ruleCount rules) × (n ≤ r) ×
-    Filled (matches rules header) (run 0 (ruleCount rules)) (run r (ruleCount rules - r)) out₀ out n
+    Filled (matches rules header) (upFrom 0 (ruleCount rules)) (upFrom r (ruleCount rules - r)) out₀ out n
 
 abbrev μ-loop : tie.MeasureT-loop
 μ-loop rules header out₀ count n₀ r₀ out n r = ruleCount rules - r
@@ -31,7 +31,7 @@ unfolding matching
 room-now c =
     let h = c .before .before .before in
     let s = h .before .before .before .before in
-    let step = run-step (ruleCount (s .args .rules .now)) (h .loop .r) (omega arith) in
+    let step = up-step (ruleCount (s .args .rules .now)) (h .loop .r) (omega arith) in
     filled-room (h .loop .inv .3) step (s .pre .enough) (sym (c .before .matches .ensures) ∙ c .if1 .taken)
 
 loop-holds : tie.Need-loop-holds Inv-loop μ-loop
@@ -65,7 +65,7 @@ unfolding matching
 loop-again c =
     let h = c .before .before .before in
     let s = h .before .before .before .before in
-    let step = run-step (ruleCount (s .args .rules .now)) (h .loop .r) (omega arith) in
+    let step = up-step (ruleCount (s .args .rules .now)) (h .loop .r) (omega arith) in
     let said = sym (c .before .matches .ensures) in
     ⊎-elim
     (λ w. (
@@ -89,7 +89,7 @@ returns : tie.Need-returns Inv-loop μ-loop
 unfolding matching
 returns c =
     let h = c .before in
-    let end = run-end (ruleCount (h .before .before .before .before .args .rules .now)) (h .loop .r) (omega arith) in
+    let end = up-end (ruleCount (h .before .before .before .before .args .rules .now)) (h .loop .r) (omega arith) in
     record { counts = counted-last (h .loop .inv .3 .counted) end; writes = filled-last (h .loop .inv .3) end }
 
 pub write-matches-spec : {M : Type 1} → statement M

@@ -4,7 +4,7 @@ use mathlib.Core.Path.{sym, _∙_}
 use borrow.Author.Tests.{ltb-true}
 use borrow.Author.Needs.{needs}
 use Rattle.facts.proofs.Bools.{held, failed}
-use Rattle.rules.proofs.There.{not-there, not-five, rule-matches-of-there}
+use Rattle.rules.proofs.AnyWords.{not-there, not-five, rule-matches-of-there}
 use Rattle.rules.proofs.matching.rule_matches.Statement.{statement}
 use Rattle.rules.proofs.matching.rule_matches.Tie as tie
 

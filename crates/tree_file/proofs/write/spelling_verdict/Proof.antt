@@ -1,10 +1,10 @@
--- `tree_file::write::tree_verdict` meets its contract: the tests are those of `treeVerdict`, in its order.
+-- `tree_file::write::spelling_verdict` meets its contract: the tests are those of `spellingVerdict`, in its order.
 -- Assumes nothing.
 use mathlib.Core.Path.{sym, _∙_}
 use borrow.Author.Needs.{needs}
 use Rattle.tree_file.proofs.Written.{many-rules, sizes-refuse, spelt-decides}
-use Rattle.tree_file.proofs.write.tree_verdict.Statement.{statement}
-use Rattle.tree_file.proofs.write.tree_verdict.Tie as tie
+use Rattle.tree_file.proofs.write.spelling_verdict.Statement.{statement}
+use Rattle.tree_file.proofs.write.spelling_verdict.Tie as tie
 
 returns : tie.Need-returns
 returns c = many-rules _ _ _ (c .if1 .taken)
@@ -32,8 +32,8 @@ returns-3 c =
     c .spelt-verdict .ensures ∙
     spelt-decides _ _ _ (w .before .if1 .left) (sym (w .size-verdict .ensures) ∙ c .before .enum-told .given .1)
 
-pub tree-verdict-spec : {M : Type 1} → statement M
-tree-verdict-spec =
+pub spelling-verdict-spec : {M : Type 1} → statement M
+spelling-verdict-spec =
     tie.close
     (tie.spec
     returns

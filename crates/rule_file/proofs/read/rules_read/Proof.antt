@@ -1,4 +1,4 @@
--- `rule_file::read::read_rules` meets its contract: the first pass decides, then the room; the second pass writes.
+-- `rule_file::read::rules_read` meets its contract: the first pass decides, then the room; the second pass writes.
 -- Assumes nothing.
 use native.Mathlib.Omega.{arith}
 use mathlib.Core.Path.{refl, subst}
@@ -9,8 +9,8 @@ use Rattle.facts.proofs.Setting.{none-before}
 use Rattle.rule_file.specs.RuleText.{rulesIn}
 use Rattle.rule_file.specs.ReadSteps.{PassIs}
 use Rattle.rule_file.proofs.ReadAnswers.{text-refused, room-refused, read-again}
-use Rattle.rule_file.proofs.read.read_rules.Statement.{statement}
-use Rattle.rule_file.proofs.read.read_rules.Tie as tie
+use Rattle.rule_file.proofs.read.rules_read.Statement.{statement}
+use Rattle.rule_file.proofs.read.rules_read.Tie as tie
 
 slice-relend-prefix-read-pass : tie.Need-slice-relend-prefix-read-pass
 slice-relend-prefix-read-pass c = search needs
@@ -74,8 +74,8 @@ returns-3 c =
     let first = subst Is (m .count .given .1) (p .read-pass .ensures) in
     read-again _ found first (q .before .before .if1 .left) (q .read-pass2 .ensures)
 
-pub read-rules-spec : {M : Type 1} → statement M
-read-rules-spec =
+pub rules-read-spec : {M : Type 1} → statement M
+rules-read-spec =
     tie.close
     (tie.spec
     slice-relend-prefix-read-pass

@@ -1,4 +1,4 @@
--- `tree_file::read::read_tree` meets its contract: the first pass judges and counts, and the second stores.
+-- `tree_file::read::tree_read` meets its contract: the first pass judges and counts, and the second stores.
 -- Assumes nothing.
 use native.Mathlib.Omega.{arith}
 use mathlib.Core.Path.{subst}
@@ -6,8 +6,8 @@ use borrow.Author.Needs.{needs}
 use Rattle.tree_file.specs.ReadSteps.{PassRead}
 use Rattle.tree_file.proofs.Answers.{stored-of, stored-few}
 use Rattle.tree_file.proofs.Told.{told-refused, told-nodes, told-pool, told-stored}
-use Rattle.tree_file.proofs.read.read_tree.Statement.{statement}
-use Rattle.tree_file.proofs.read.read_tree.Tie as tie
+use Rattle.tree_file.proofs.read.tree_read.Statement.{statement}
+use Rattle.tree_file.proofs.read.tree_read.Tie as tie
 
 slice-relend-prefix-read-pass : tie.Need-slice-relend-prefix-read-pass
 slice-relend-prefix-read-pass c = search needs
@@ -95,8 +95,8 @@ returns-4 c =
     (subst (PassRead _ _ _ _ _) (room .before .before .before .count .given .1) (w .read-pass .ensures))
     (room .before .if1 .left) (room .if2 .left) (again .read-pass2 .ensures)
 
-pub read-tree-spec : {M : Type 1} → statement M
-read-tree-spec =
+pub tree-read-spec : {M : Type 1} → statement M
+tree-read-spec =
     tie.close
     (tie.spec
     slice-relend-prefix-read-pass

@@ -1,9 +1,9 @@
--- `rule_file::write::write_rules` meets its contract: the list decides first. Assumes nothing.
+-- `rule_file::write::rules_write` meets its contract: the list decides first. Assumes nothing.
 use mathlib.Core.Path.{sym, _∙_}
 use borrow.Author.Needs.{needs}
 use Rattle.rule_file.proofs.WriteAnswers.{list-refused}
-use Rattle.rule_file.proofs.write.write_rules.Statement.{statement}
-use Rattle.rule_file.proofs.write.write_rules.Tie as tie
+use Rattle.rule_file.proofs.write.rules_write.Statement.{statement}
+use Rattle.rule_file.proofs.write.rules_write.Tie as tie
 
 list-verdict-requires : tie.Need-list-verdict-requires
 list-verdict-requires c κs = search needs
@@ -26,8 +26,8 @@ same-length c = search needs
 returns-2 : tie.Need-returns-2
 returns-2 c = c .before .before .write-good .ensures
 
-pub write-rules-spec : {M : Type 1} → statement M
-write-rules-spec =
+pub rules-write-spec : {M : Type 1} → statement M
+rules-write-spec =
     tie.close
     (tie.spec
     list-verdict-requires

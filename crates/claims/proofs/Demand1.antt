@@ -12,19 +12,13 @@ use Rattle.refusals.specs.Paper.{Paper}
 use Rattle.refusals.specs.Order.{_giving_, leaving}
 use Rattle.refusals.specs.Promises.{Writes, Fixes, Settles, WritesOnly, value}
 use Rattle.refusals.proofs.Order.{refused-not-fine}
-use Rattle.refusals.proofs.Promises.{refused-as-found, rest-as-found}
+use Rattle.refusals.proofs.Promises.{says-unique, refused-as-found, rest-as-found, writes-only}
 use Rattle.rules.specs.Words.{ruleWords, ruleCount}
-use Rattle.rules.specs.LineAll.{lineAll, lineAllWords, LineAllSearched}
-use Rattle.rules.specs.LineAll as line
-use Rattle.rules.proofs.Unique.{rule-checked-unique, line-all-searched-unique, line-first-searched-unique}
+use Rattle.rules.proofs.Unique.{checked-apart, listed-apart, first-apart}
 use Rattle.trees.specs.Words.{nodeWords, nodeCount}
-use Rattle.trees.specs.Counted.{said}
-use Rattle.trees.specs.TreeAll.{treeAll, treeAllWords, TreeAllSearched}
-use Rattle.trees.specs.TreeAll as tree
-use Rattle.trees.proofs.Counting.{said-of-counting}
 use Rattle.trees.proofs.Sizes.{sizes-fine-iff}
-use Rattle.trees.proofs.Unique.{tree-all-searched-unique, tree-first-searched-unique}
-use Rattle.tree_check.proofs.Unique.{tree-checked-unique}
+use Rattle.trees.proofs.Unique as trees
+use Rattle.tree_check.proofs.Unique.{answer-apart}
 use Rattle.text.specs.Text.{Reading, good, refused}
 use Rattle.rule_file.specs.RuleText.{rulesIn}
 use Rattle.rule_file.specs.WriteRules.{writeRules, writeRulesBytes, RulesWritten}
@@ -108,19 +102,6 @@ fronts {R} {w} {P} {paper} {size} v values new one says counts =
     shape : (r : R) (a : List ℕ) → P r a → Writes paper v values new w r a
     shape r a q = record { answers = says r a q .0; leaves = says r a q .1 }
 
-line-writes : (rs h w : List ℕ) → WritesOnly w (LineAllSearched rs h w) line.paper (value 0)
-unfolding lineAll lineAllWords
-line-writes rs h w =
-    fronts _ _ _ (λ r s v u p q. line-all-searched-unique p q) (λ r a p. (p .answers, p .leaves))
-    (λ e. refl)
-
-tree-writes :
-    (rs ns es h w : List ℕ) → WritesOnly w (TreeAllSearched rs ns es h w) (λ r. said (tree.paper r)) (value 0)
-unfolding treeAll treeAllWords
-tree-writes rs ns es h w =
-    fronts _ _ _ (λ r s v u p q. tree-all-searched-unique p q)
-    (λ r a p. (ap said (p .answers) ∙ said-of-counting _ _ _ _, p .leaves)) (λ e. refl)
-
 rules-written-writes : (rs w : List ℕ) → WritesOnly w (RulesWritten rs w) write-rules.paper (value 0)
 unfolding writeRules writeRulesBytes
 rules-written-writes rs w =
@@ -185,12 +166,12 @@ same-three e = rw (e .0, e .1, e .2)
 pub calls-claim : Calls
 calls-claim =
     record {
-      rule-check = λ rs r s p q. rule-checked-unique p q;
-      line-all = line-writes;
-      line-first = λ rs h r s p q. line-first-searched-unique p q;
-      tree-all = tree-writes;
-      tree-first = λ rs ns es h r s p q. tree-first-searched-unique p q;
-      tree-check = λ rs ns es r s p q. tree-checked-unique p q;
+      rule-check = λ rs r s p q. says-unique checked-apart p q;
+      line-all = λ rs h w. writes-only listed-apart (λ r a p. p) (λ e. refl);
+      line-first = λ rs h r s p q. says-unique first-apart p q;
+      tree-all = λ rs ns es h w. writes-only trees.listed-apart (λ r a p. p) (λ e. refl);
+      tree-first = λ rs ns es h r s p q. says-unique trees.first-apart p q;
+      tree-check = λ rs ns es r s p q. says-unique answer-apart p q;
       rules-write = rules-written-writes;
       rules-read = rules-read-writes;
       tree-write = tree-written-writes;

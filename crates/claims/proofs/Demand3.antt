@@ -11,17 +11,17 @@ pub tree-check-claim : TreeCheck
 tree-check-claim =
     record {
       accepts = λ rs ns es. (
-        λ t. accepts-iff-serves rs ns es .0 (lack-decides (accepted-means (t .2))),
-        λ s. let t = accepted rs ns es (accepts-iff-serves rs ns es .1 s) in (t .0, t .1, accepted-says (t .2)),
+        λ t. accepts-iff-serves rs ns es .0 (lack-decides (accepted-means rs ns es (t .2))),
+        λ s. let t = accepted rs ns es (accepts-iff-serves rs ns es .1 s) in (t .0, t .1, accepted-says rs ns es (t .2)),
       );
       eight = λ rs ns es. (
-        λ t. eight-iff rs ns es .0 (t .0, t .1, refused-iff .0 (t .2)),
-        λ m. let t = eight-iff rs ns es .1 m in (t .0, t .1, refused-iff .1 (t .2)),
+        λ t. eight-iff rs ns es .0 (t .0, t .1, refused-iff rs ns es .0 (t .2)),
+        λ m. let t = eight-iff rs ns es .1 m in (t .0, t .1, refused-iff rs ns es .1 (t .2)),
       );
       eight-at = λ rs ns es i r. (
-        λ p. eight-at-iff rs ns es i r .0 (refused-iff .0 p),
-        λ l. refused-iff .1 (eight-at-iff rs ns es i r .1 l),
+        λ p. eight-at-iff rs ns es i r .0 (refused-iff rs ns es .0 p),
+        λ l. refused-iff rs ns es .1 (eight-at-iff rs ns es i r .1 l),
       );
       malformed = malformed-iff;
-      searches = λ rs ns es c l p. accepted-answers p;
+      searches = λ rs ns es c l p. accepted-answers rs ns es p;
     }

@@ -1,8 +1,8 @@
 -- The worked policy's rows hold, by computation.
 use mathlib.Core.Path.{refl}
 use Rattle.facts.specs.Below.{allBelow, lowest}
-use Rattle.facts.specs.Lists.{upFrom, keep, has, rises, allUnder}
-use Rattle.refusals.specs.Order.{refuseUnless, roomVerdict, _then_, inTurn, _giving_}
+use Rattle.facts.specs.Lists.{upFrom, keep, has, rises, allUnder, written}
+use Rattle.refusals.specs.Order.{refuseUnless, roomVerdict, _then_, inTurn, _giving_, leaving}
 use Rattle.fields.specs.Boxes.{meets}
 use Rattle.fields.specs.Cuts.{divides, leftOf, rightOf}
 use Rattle.fields.specs.Headers.{fieldVerdict, headerVerdict}
@@ -11,39 +11,88 @@ use Rattle.fields.specs.Ranges.{rangeGood, rangeHolds, rangesMeet}
 use Rattle.rules.specs.Good.{good, ruleVerdict, listVerdict}
 use Rattle.rules.specs.Lacking.{lacking, lowestLacking}
 use Rattle.rules.specs.Matching.{matches, matching, ruleBox}
-use Rattle.rules.specs.LineAll.{allVerdict, lineAll}
-use Rattle.rules.specs.LineFirst.{lineFirst}
+use Rattle.rules.specs.LineAll.{allVerdict}
 use Rattle.trees.specs.Words.{entries, sizeVerdict}
 use Rattle.trees.specs.Walk.{sideOf, stepOf, walk, walkOf}
 use Rattle.trees.specs.Search.{leafVerdict, reachVerdict, leafList, treeList, lookedAt}
-use Rattle.trees.specs.Counted.{counting}
-use Rattle.trees.specs.TreeAll.{treeAllVerdict, treeAll}
-use Rattle.trees.specs.TreeFirst.{treeFirst}
+use Rattle.trees.specs.TreeAll.{treeAllVerdict}
 use Rattle.trees.specs.Spelt.{leafCount, countsBelow, leafSpelt, nodeVerdict, speltVerdict}
 use Rattle.tree_check.specs.Preorder.{lackOf, leafPart, cutPart, nodePart, partOf}
-use Rattle.tree_check.specs.TreeCheck.{rootPart, wordsVerdict, checkVerdict, treeCheck}
+use Rattle.tree_check.specs.TreeCheck.{rootPart, wordsVerdict, checkVerdict}
 use Rattle.claims.specs.Worked.{AllHold, table}
 
 pub worked : AllHold table
 unfolding allBelow lowest upFrom keep has rises allUnder refuseUnless roomVerdict _then_ inTurn _giving_ meets
     divides leftOf rightOf fieldVerdict headerVerdict span prefixGood prefixAgrees prefixEnds rangeGood
     rangeHolds rangesMeet good ruleVerdict listVerdict lacking lowestLacking matches matching ruleBox entries
-    allVerdict lineAll lineFirst sizeVerdict sideOf stepOf walk walkOf leafVerdict reachVerdict leafList treeList
-    lookedAt counting treeAllVerdict treeAll treeFirst leafCount countsBelow leafSpelt nodeVerdict speltVerdict
-    lackOf leafPart cutPart nodePart partOf rootPart wordsVerdict checkVerdict treeCheck
+    leaving written allVerdict sizeVerdict sideOf stepOf walk walkOf leafVerdict reachVerdict leafList treeList
+    lookedAt treeAllVerdict leafCount countsBelow leafSpelt nodeVerdict speltVerdict lackOf leafPart cutPart
+    nodePart partOf rootPart wordsVerdict checkVerdict
 worked = (
-  (refl, refl, refl, refl, refl, refl),
   (
-    (refl, refl, refl, refl, refl, refl),
+    refl,
+    refl,
+    record { answers = refl; leaves = refl },
+    record { answers = refl },
+    record { answers = refl; leaves = refl },
+    record { answers = refl },
+  ),
+  (
     (
-      (refl, refl, refl, refl, refl, refl),
+      refl,
+      refl,
+      record { answers = refl; leaves = refl },
+      record { answers = refl },
+      record { answers = refl; leaves = refl },
+      record { answers = refl },
+    ),
+    (
       (
-        (refl, refl, refl, refl, refl, refl),
+        refl,
+        refl,
+        record { answers = refl; leaves = refl },
+        record { answers = refl },
+        record { answers = refl; leaves = refl },
+        record { answers = refl },
+      ),
+      (
         (
-          (refl, refl, refl, refl, refl, refl),
+          refl,
+          refl,
+          record { answers = refl; leaves = refl },
+          record { answers = refl },
+          record { answers = refl; leaves = refl },
+          record { answers = refl },
+        ),
+        (
           (
-            (refl, refl, refl, refl, refl, refl),
-            ((refl, refl, refl, refl, refl, refl), (refl, (refl, (refl, (refl, tt))))),
+            refl,
+            refl,
+            record { answers = refl; leaves = refl },
+            record { answers = refl },
+            record { answers = refl; leaves = refl },
+            record { answers = refl },
+          ),
+          (
+            (
+              refl,
+              refl,
+              record { answers = refl; leaves = refl },
+              record { answers = refl },
+              record { answers = refl; leaves = refl },
+              record { answers = refl },
+            ),
+            (
+              (
+                refl,
+                refl,
+                record { answers = refl; leaves = refl },
+                record { answers = refl },
+                record { answers = refl; leaves = refl },
+                record { answers = refl },
+              ),
+              (record { answers = refl }, (record { answers = refl }, (record { answers = refl }, (record { answers = refl }, tt)))),
+            ),
           ),
         ),
       ),

@@ -49,7 +49,7 @@ pub record Calls : Type 0 where
   pub line-first : (rs h : List ℕ) → Fixes (rules.LineFirst.LineFirstSearched rs h)
   pub tree-all :
       (rs ns es h w : List ℕ) →
-      WritesOnly w (trees.TreeAll.TreeAllSearched rs ns es h w) (λ r. trees.Counted.said (trees.TreeAll.paper r)) (value 0)
+      WritesOnly w (trees.TreeAll.TreeAllSearched rs ns es h w) trees.TreeAll.paper (value 2)
   pub tree-first : (rs ns es h : List ℕ) → Fixes (trees.TreeFirst.TreeFirstSearched rs ns es h)
   pub tree-check : (rs ns es : List ℕ) → Fixes (tree-check.TreeCheck.TreeChecked rs ns es)
   pub rules-write :

@@ -8,10 +8,14 @@ use lib.ListN.{length}
 use Rattle.facts.specs.Lists.{has, rises}
 use Rattle.refusals.specs.declared.Refusal.the-variants.{TextStops}
 use Rattle.refusals.specs.declared.Verdict.the-variants.{Fine}
+use Rattle.refusals.specs.Order.{_then_, _giving_}
 use Rattle.fields.specs as fields
 use Rattle.rules.specs as rules
+use Rattle.rules.specs.declared.line.Listed.{Listed}
 use Rattle.rules.specs.Matching.{matches, matching, ruleBox}
+use Rattle.rules.specs.LineFirst.{firstOf}
 use Rattle.trees.specs as trees
+use Rattle.trees.specs.declared.search.TreeListed.{TreeListed}
 use Rattle.text.specs.Line.{EachUnder}
 use Rattle.text.specs.Text as text
 use Rattle.rule_file.specs.RuleText.{rulesIn, rulesText}
@@ -36,8 +40,13 @@ pub record Matching : Type 0 where
 -- leaf, of which they give all or the first, are the list's
 pub record ByTree (rs ns es : List ℕ) : Type 0 where
   pub refuses : (h : List ℕ) (n : ℕ) → trees.TreeAll.treeAllVerdict rs ns es h n ≡ rules.LineAll.allVerdict rs h n
-  pub leaves : (h found : List ℕ) → trees.TreeAll.treeAllWords rs ns es h found ≡ rules.LineAll.lineAllWords rs h found
-  pub first : (h : List ℕ) → trees.Counted.said (trees.TreeFirst.treeFirst rs ns es h) ≡ rules.LineFirst.lineFirst rs h
+  pub leaves :
+      (h found : List ℕ) {r : TreeListed} {s : Listed} {v w : List ℕ} →
+      trees.TreeAll.TreeAllSearched rs ns es h found r v → rules.LineAll.LineAllSearched rs h found s w → v ≡ w
+  pub first :
+      (h : List ℕ) →
+      (trees.Search.reachVerdict rs ns es h giving firstOf (trees.Search.treeList rs ns es h)) ≡
+      ((rules.Good.listVerdict rs then fields.Headers.headerVerdict h) giving firstOf (matching rs h))
   pub completes : (h : List ℕ) → fields.Headers.Legal h → trees.Search.reachVerdict rs ns es h ≡ Fine
   pub lists : (h : List ℕ) → fields.Headers.Legal h → trees.Search.treeList rs ns es h ≡ matching rs h
 

@@ -1,16 +1,22 @@
--- The marked rows of the scope's worked policy, as one table under one statement. Destination is 192.168.0.1 and source
--- port 40,000 throughout. Statements only.
+-- The marked rows of the scope's worked policy, as one table under one statement: each row's answer is the one that its
+-- call's promise allows. Destination is 192.168.0.1 and source port 40,000 throughout. Statements only.
 --   search h ms n c f a    header h: list ms and first f, by list and tree; n nodes, c compared, and a for the first
---   check rs ns es p       the tree check of nodes ns and pool es for the list rs says p
+--   check rs ns es r       the tree check of nodes ns and pool es for the list rs answers r
 use Prim.Native.Nat.{ℕ, _+_, _*_}
 use mathlib.Core.Path.{_≡_}
 use mathlib.Core.List.{List, [], _∷_}
 use lib.ListN.{length}
-use Rattle.refusals.specs.Paper.{Paper, refusal, success}
+use Rattle.facts.specs.Lists.{written}
+use Rattle.refusals.specs.declared.Refusal.the-variants.{NodeWrong, LeafLacksRule}
 use Rattle.rules.specs as list
+use Rattle.rules.specs.declared.line.Listed.the-variants as line
+use Rattle.rules.specs.declared.line.First.the-variants as first
 use Rattle.trees.specs as trees
-use Rattle.trees.specs.Counted.{counted}
-use Rattle.tree_check.specs.TreeCheck.{treeCheck}
+use Rattle.trees.specs.declared.search.TreeListed.the-variants as tree-all
+use Rattle.trees.specs.declared.search.TreeFirst.the-variants as tree-first
+use Rattle.tree_check.specs.declared.check.TreeAnswer.{TreeAnswer}
+use Rattle.tree_check.specs.declared.check.TreeAnswer.the-variants.{Refused, Accepted}
+use Rattle.tree_check.specs.TreeCheck.{TreeChecked}
 
 abbrev pub from : ℕ → ℕ → ℕ → ℕ → ℕ → ℕ → List ℕ
 from a b c d port protocol = (((a * 256 + b) * 256 + c) * 256 + d) ∷ 3232235521 ∷ 40000 ∷ port ∷ protocol ∷ []
@@ -31,19 +37,23 @@ tree = nodes 184549375 3
 abbrev pub pool : List ℕ
 pool = 2 ∷ 0 ∷ 1 ∷ 2 ∷ 2 ∷ []
 
+-- the room of a search for all matches: three words
+abbrev pub room : List ℕ
+room = 0 ∷ 0 ∷ 0 ∷ []
+
 pub data Row : Type 0 where
   search : List ℕ → List ℕ → ℕ → ℕ → ℕ → ℕ → Row
-  check : List ℕ → List ℕ → List ℕ → Paper → Row
+  check : List ℕ → List ℕ → List ℕ → TreeAnswer → Row
 
 abbrev pub AllHold : List Row → Type 0
 AllHold [] = Unit {0}
 AllHold (search h ms n c f a ∷ rows) =
     ((list.Matching.matching rules h ≡ ms) × (trees.Search.treeList rules tree pool h ≡ ms) ×
-    (list.LineAll.lineAll rules h 3 ≡ success (length ms ∷ [])) ×
-    (list.LineFirst.lineFirst rules h ≡ success (f ∷ [])) ×
-    (trees.TreeAll.treeAll rules tree pool h 3 ≡ counted (success (length ms ∷ [])) n c) ×
-    (trees.TreeFirst.treeFirst rules tree pool h ≡ counted (success (f ∷ [])) n a)) × AllHold rows
-AllHold (check rs ns es p ∷ rows) = (treeCheck rs ns es ≡ p) × AllHold rows
+    list.LineAll.LineAllSearched rules h room (line.Found (length ms)) (written ms room) ×
+    list.LineFirst.LineFirstSearched rules h (first.Rule f) ×
+    trees.TreeAll.TreeAllSearched rules tree pool h room (tree-all.Found (length ms) n c) (written ms room) ×
+    trees.TreeFirst.TreeFirstSearched rules tree pool h (tree-first.Rule f n a)) × AllHold rows
+AllHold (check rs ns es r ∷ rows) = TreeChecked rs ns es r × AllHold rows
 
 abbrev pub table : List Row
 table =
@@ -54,7 +64,7 @@ table =
     search (from 9 255 255 255 80 6) (2 ∷ []) 2 1 2 1 ∷
     search (from 10 255 255 255 80 6) (0 ∷ 2 ∷ []) 3 3 0 1 ∷
     search (from 11 0 0 0 80 6) (2 ∷ []) 3 1 2 1 ∷
-    check rules tree pool (success (2 ∷ 3 ∷ [])) ∷
-    check rules (nodes 184549375 2) (2 ∷ 0 ∷ 2 ∷ 2 ∷ []) (refusal 8 3 1) ∷
-    check rules (nodes 167772159 3) pool (refusal 6 2 0) ∷
-    check [] (5 ∷ 0 ∷ 0 ∷ []) [] (success (0 ∷ 0 ∷ [])) ∷ []
+    check rules tree pool (Accepted 2 3) ∷
+    check rules (nodes 184549375 2) (2 ∷ 0 ∷ 2 ∷ 2 ∷ []) (Refused (LeafLacksRule 3 1)) ∷
+    check rules (nodes 167772159 3) pool (Refused (NodeWrong 2)) ∷
+    check [] (5 ∷ 0 ∷ 0 ∷ []) [] (Accepted 0 0) ∷ []

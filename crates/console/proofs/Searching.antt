@@ -2,7 +2,7 @@
 use Prim.Native.Nat.{ℕ, _≤_}
 use native.Mathlib.Omega.{arith}
 use mathlib.Core.Bool.{Bool, true, false}
-use mathlib.Core.Path.{_≡_, sym, ap, _∙_}
+use mathlib.Core.Path.{_≡_, refl, ap, _∙_}
 use mathlib.Core.List.{List, [], _∷_}
 use lib.ListN.{length, take, drop, length-append}
 use Rattle.facts.specs.Lists.{written}
@@ -11,19 +11,18 @@ use Rattle.refusals.specs.declared.Refusal.{Refusal}
 use Rattle.refusals.specs.declared.Verdict.{Verdict}
 use Rattle.refusals.specs.declared.Verdict.the-variants as verdict
 use Rattle.refusals.specs.Paper.{success}
-use Rattle.refusals.proofs.Order.{giving-refused, giving-fine, leaving-fine}
-use Rattle.refusals.proofs.Giving.{success-giving, refusal-giving}
+use Rattle.refusals.proofs.Promises.{refused-by, fine-by, said-by, writes-refused, writes-fine, left-found, left-written}
 use Rattle.rules.specs.declared.line.Listed.{Listed}
 use Rattle.rules.specs.declared.line.Listed.the-variants as listed
-use Rattle.rules.specs.LineAll.{lineAll, lineAllWords, LineAllSearched}
+use Rattle.rules.specs.LineAll.{Lists, LineAllSearched}
 use Rattle.rules.specs.LineAll as line
 use Rattle.trees.specs.declared.search.TreeListed.{TreeListed}
 use Rattle.trees.specs.declared.search.TreeListed.the-variants as treed
-use Rattle.trees.specs.TreeAll.{treeAllVerdict, treeAll, treeAllWords, TreeAllSearched}
+use Rattle.trees.specs.TreeAll.{treeAllVerdict, TreeAllSearched}
 use Rattle.trees.specs.TreeAll as tree
-use Rattle.trees.proofs.Counting.{success-counting, refusal-counting}
+use Rattle.trees.specs.Search.{treeList}
 use Rattle.console.specs.Lines.{refusedLine, hitLine}
-use Rattle.console.specs.Replies.{searchVerdict, searchList, Found, answerOf}
+use Rattle.console.specs.Replies.{searchVerdict, searchList, answerOf}
 
 -- ---- by the list or by the tree
 
@@ -31,52 +30,52 @@ module _ (rs nodes pool h : List ℕ) {before after : List ℕ} where
   -- the line search is the search by the list
   pub by-list :
       {t : Bool} {r : Listed} → t ≡ false → LineAllSearched rs h before r after →
-      Found (searchVerdict t rs nodes pool h (length before)) (searchList t rs nodes pool h) before r after
-  unfolding searchVerdict searchList lineAll lineAllWords
-  by-list e p = rw e (record { answers = p .answers; leaves = p .leaves })
+      Lists (searchVerdict t rs nodes pool h (length before)) (searchList t rs nodes pool h) before r after
+  unfolding searchVerdict searchList
+  by-list e p = rw e p
 
   -- a tree search that refuses is the search by the tree
   pub by-tree-refused :
       {t : Bool} {r : TreeListed} {why : Refusal} → t ≡ true → r ≡ treed.Refused why →
       TreeAllSearched rs nodes pool h before r after →
-      Found (searchVerdict t rs nodes pool h (length before)) (searchList t rs nodes pool h) before
+      Lists (searchVerdict t rs nodes pool h (length before)) (searchList t rs nodes pool h) before
       (listed.Refused why) after
-  unfolding searchVerdict searchList treeAll treeAllWords
+  unfolding searchVerdict searchList
   by-tree-refused {why = why} e f p =
       let v : treeAllVerdict rs nodes pool h (length before) ≡ verdict.Refused why =
-      refusal-counting _ _ _ _ (ap tree.paper (sym f) ∙ p .answers) in
-      rw e (record { answers = sym (giving-refused _ v); leaves = p .leaves })
+      refused-by (said-by p) (ap tree.paper f) in
+      rw e (writes-refused v refl (left-found p v))
 
   -- so is one that finds numbers
   pub by-tree-found :
       {t : Bool} {r : TreeListed} {n visited compared : ℕ} → t ≡ true → r ≡ treed.Found n visited compared →
       TreeAllSearched rs nodes pool h before r after →
-      Found (searchVerdict t rs nodes pool h (length before)) (searchList t rs nodes pool h) before
+      Lists (searchVerdict t rs nodes pool h (length before)) (searchList t rs nodes pool h) before
       (listed.Found n) after
-  unfolding searchVerdict searchList treeAll treeAllWords
+  unfolding searchVerdict searchList
   by-tree-found {n = n} e f p =
-      let said = ap tree.paper (sym f) ∙ p .answers in
-      let v = success-counting (treeAllVerdict rs nodes pool h (length before)) _ _ _ said in
-      rw e (record { answers = ap success (v .1) ∙ sym (giving-fine _ (v .0)); leaves = p .leaves })
+      let v = fine-by (said-by p) (ap tree.paper f) in
+      let count : n ≡ length (treeList rs nodes pool h) = (let q = v .1 in cc) in
+      rw e (writes-fine (v .0) (ap (λ (k : ℕ). success (k ∷ [])) count) (left-written p (v .0)))
 
 -- ---- the line that is made of it
 
-module _ {v : Verdict} {ms before after : List ℕ} {r : Listed} (p : Found v ms before r after) where
+module _ {v : Verdict} {ms before after : List ℕ} {r : Listed} (p : Lists v ms before r after) where
   -- a refusal is answered as such
   pub found-refused : {why : Refusal} → r ≡ listed.Refused why → refusedLine why ≡ answerOf v ms
   unfolding answerOf
   found-refused {why} f =
-      let e : v ≡ verdict.Refused why = refusal-giving v (length ms ∷ []) (ap line.paper (sym f) ∙ p .answers) in rw e
+      let e : v ≡ verdict.Refused why = refused-by (said-by p) (ap line.paper f) in rw e
 
   module _ {n : ℕ} (f : r ≡ listed.Found n) where
     found-fine : (v ≡ verdict.Fine) × (n ∷ [] ≡ length ms ∷ [])
-    found-fine = success-giving v (length ms ∷ []) (ap line.paper (sym f) ∙ p .answers)
+    found-fine = fine-by (said-by p) (ap line.paper f)
 
     found-count : length ms ≡ n
     found-count = let e = found-fine .1 in cc
 
     found-words : after ≡ written ms before
-    found-words = p .leaves ∙ leaving-fine _ before (found-fine .0)
+    found-words = left-written p (found-fine .0)
 
     -- as many numbers as are said are there
     pub found-fits : n ≤ length after

@@ -9,7 +9,8 @@ use lib.ListN.{length, take, replicate, length-append}
 use lib.Dec.{leb, eqb}
 use borrow.Author.Tests.{le-leb}
 use Rattle.facts.specs.Lists.{upFrom}
-use Rattle.facts.proofs.Counting.{keep-at-most, length-up}
+use Rattle.facts.proofs.Steps.{length-up}
+use Rattle.facts.proofs.Filling.{keep-at-most}
 use Rattle.facts.proofs.Under.{all-under-iff-at, all-under-iff-has}
 use Rattle.refusals.specs.declared.Refusal.{Refusal}
 use Rattle.refusals.specs.declared.Refusal.the-variants.{HeaderWrong}

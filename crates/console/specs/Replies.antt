@@ -1,25 +1,18 @@
 -- The reply to an input line. Definitions only.
 --   searchVerdict by .. h room    what the search for all matches refuses: by the tree if by is true, else by the list
 --   searchList by .. h       the numbers that it finds
---   Found                    the promise of the search, whichever way it goes
 --   answerTo by .. h         the line that answers header h: a hit with the numbers, or the refusal
 --   lineReply answer k l     the line that replies to the input line l, which has k lines before it: 9 where it asks
 --                            about no header, else the answer
 use Prim.Native.Nat.{ℕ}
 use mathlib.Core.Bool.{Bool, true, false}
-use mathlib.Core.Path.{_≡_}
-use mathlib.Core.List.{List, [], _∷_}
+use mathlib.Core.List.{List}
 use mathlib.Core.Option.{Option, none, some}
-use lib.ListN.{length}
-use Rattle.facts.specs.Lists.{written}
 use Rattle.refusals.specs.declared.Verdict.{Verdict}
 use Rattle.refusals.specs.declared.Verdict.the-variants.{Fine, Refused}
-use Rattle.refusals.specs.Order.{_giving_, leaving}
-use Rattle.rules.specs.declared.line.Listed.{Listed}
 use Rattle.rules.specs.Words.{mostRules}
 use Rattle.rules.specs.Matching.{matching}
 use Rattle.rules.specs.LineAll.{allVerdict}
-use Rattle.rules.specs.LineAll as line
 use Rattle.trees.specs.Search.{treeList}
 use Rattle.trees.specs.TreeAll.{treeAllVerdict}
 use Rattle.text.specs.Cursors.{wrongAt}
@@ -33,10 +26,6 @@ searchVerdict false rs nodes pool h room = allVerdict rs h room
 unfoldable pub searchList : Bool → List ℕ → List ℕ → List ℕ → List ℕ → List ℕ
 searchList true rs nodes pool h = treeList rs nodes pool h
 searchList false rs nodes pool h = matching rs h
-
-pub record Found (v : Verdict) (ms before : List ℕ) (r : Listed) (after : List ℕ) : Type 0 where
-  pub answers : line.paper r ≡ (v giving (length ms ∷ []))
-  pub leaves : after ≡ leaving v (written ms before) before
 
 unfoldable pub answerOf : Verdict → List ℕ → List ℕ
 answerOf Fine ms = hitLine ms

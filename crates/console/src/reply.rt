@@ -10,8 +10,9 @@ use text::cursor::wrong;
 use trees::search::TreeListed;
 use trees::search::tree_all;
 ghost use lib.ListN.{length};
+ghost use Rattle.rules.specs.LineAll.{Lists};
 ghost use Rattle.console.specs.Lines.{Said};
-ghost use Rattle.console.specs.Replies.{searchVerdict, searchList, Found, answerTo, lineReply};
+ghost use Rattle.console.specs.Replies.{searchVerdict, searchList, answerTo, lineReply};
 
 // The reply to a line, its newline apart, that has so many lines before it: by the tree if the tree check accepted it,
 // else by the list. A refusal writes nothing.
@@ -63,7 +64,7 @@ fn search(
     header: &[u32],
     out: &mut [u32],
 ) -> Listed
-    ensures { λ r. ⌜ Found
+    ensures { λ r. ⌜ Lists
         (searchVerdict accepted (now (rules .entry)) (now (nodes .entry)) (now (pool .entry)) (now (header .entry))
         (length (now (out .entry))))
         (searchList accepted (now (rules .entry)) (now (nodes .entry)) (now (pool .entry)) (now (header .entry)))

@@ -1,16 +1,16 @@
--- The promise of each C function allows one answer and one state of the lent outputs.
+-- The promise of each C function allows one answer and one state of the lent outputs, since that of its Rattle call does.
 use Prim.Native.Nat.{ℕ}
-use mathlib.Core.Path.{_≡_}
+use mathlib.Core.Path.{_≡_, sym, ap, _∙_}
 use mathlib.Core.List.{List}
-use Rattle.facts.proofs.Equations.{equation-unique}
 use Rattle.refusals.specs.Paper.{Paper}
-use Rattle.exports.specs.Answers.{Answered}
+use Rattle.exports.specs.Answers.{inWords, InWords}
 
--- two answers that a promise allows are equal, and so are the two states of the lent outputs. The promises of all ten
--- calls are instances of `Answered` (specs/Calls.antt): RuleCheckAnswered, LineAllAnswered, LineFirstAnswered,
--- TreeAllAnswered, TreeFirstAnswered, TreeCheckAnswered, RulesWriteAnswered, RulesReadAnswered, TreeWriteAnswered and
--- TreeReadAnswered
-pub answered-unique :
-    {p : Paper} {left after rest : List (List ℕ)} {answer other : List ℕ} → Answered p left answer after →
-    Answered p left other rest → (answer ≡ other) × (after ≡ rest)
-answered-unique p q = (equation-unique (p .answers) (q .answers), equation-unique (p .leaves) (q .leaves))
+-- two answers that a promise allows are equal, and so are the two states v and w of the lent outputs, be there none, one
+-- or two. The promises of all ten calls (specs/Calls.antt) are instances of `InWords`
+pub in-words-unique :
+    {R W : Type 0} {words : List ℕ → List ℕ} {paper : R → Paper} {P : R → W → Type 0} {v w : W} {answer other : List ℕ} →
+    ((r s : R) (x y : W) → P r x → P s y → (r ≡ s) × (x ≡ y)) → InWords words paper (λ r. P r v) answer →
+    InWords words paper (λ r. P r w) other → (answer ≡ other) × (v ≡ w)
+in-words-unique {R} {words = words} {paper = paper} one p q =
+    let same = one (p .said) (q .said) _ _ (p .promised) (q .promised) in
+    (p .answers ∙ ap (λ (r : R). inWords words (paper r)) (same .0) ∙ sym (q .answers), same .1)

@@ -1,61 +1,56 @@
--- The promise of each C function: what it answers, and how it leaves the lent outputs. Definitions only.
+-- The promise of each C function: what its Rattle call promises, the answer in eight words. Definitions only.
 use Prim.Native.Nat.{ℕ}
-use mathlib.Core.List.{List, [], _∷_}
-use lib.ListN.{length}
-use Rattle.rules.specs.RuleCheck.{ruleCheck}
-use Rattle.rules.specs.LineAll.{lineAll, lineAllWords}
-use Rattle.rules.specs.LineFirst.{lineFirst}
-use Rattle.trees.specs.TreeAll.{treeAll, treeAllWords}
-use Rattle.trees.specs.TreeFirst.{treeFirst}
-use Rattle.tree_check.specs.TreeCheck.{treeCheck}
-use Rattle.rule_file.specs.ReadRules.{readRules, readRulesWords}
-use Rattle.rule_file.specs.WriteRules.{writeRules, writeRulesBytes}
-use Rattle.tree_file.specs.ReadTree.{readTree, readNodes, readPool}
-use Rattle.tree_file.specs.WriteTree.{writeTree, writeTreeBytes}
-use Rattle.exports.specs.Answers.{inOneWord, allInWords, firstInWords, Answered}
+use mathlib.Core.List.{List}
+use Rattle.rules.specs.RuleCheck as rule-check
+use Rattle.rules.specs.LineAll as line-all
+use Rattle.rules.specs.LineFirst as line-first
+use Rattle.trees.specs.TreeAll as tree-all
+use Rattle.trees.specs.TreeFirst as tree-first
+use Rattle.tree_check.specs.TreeCheck as tree-check
+use Rattle.rule_file.specs.WriteRules as rules-write
+use Rattle.rule_file.specs.ReadRules as rules-read
+use Rattle.tree_file.specs.WriteTree as tree-write
+use Rattle.tree_file.specs.ReadTree as tree-read
+use Rattle.exports.specs.Answers.{plainly, countsLast, inOneWord, firstInWords, InWords}
 
 -- the lent words and the answer of a call
 abbrev Words : Type 0
 Words = List ℕ
 
--- ---- calls that are lent no output
-
 abbrev pub RuleCheckAnswered : Words → Words → Type 0
-RuleCheckAnswered rs answer = Answered (ruleCheck rs) [] answer []
-
-abbrev pub LineFirstAnswered : Words → Words → Words → Type 0
-LineFirstAnswered rs h answer = Answered (inOneWord (lineFirst rs h)) [] answer []
-
-abbrev pub TreeFirstAnswered : Words → Words → Words → Words → Words → Type 0
-TreeFirstAnswered rs nodes pool h answer = Answered (firstInWords (treeFirst rs nodes pool h)) [] answer []
-
-abbrev pub TreeCheckAnswered : Words → Words → Words → Words → Type 0
-TreeCheckAnswered rs nodes pool answer = Answered (treeCheck rs nodes pool) [] answer []
-
--- ---- calls that are lent an output: as found, as left
+RuleCheckAnswered rs answer = InWords plainly rule-check.paper (rule-check.RuleChecked rs) answer
 
 abbrev pub LineAllAnswered : Words → Words → Words → Words → Words → Type 0
-LineAllAnswered rs h w after answer =
-    Answered (lineAll rs h (length w)) (lineAllWords rs h w ∷ []) answer (after ∷ [])
+LineAllAnswered rs h found after answer =
+    InWords plainly line-all.paper (λ r. line-all.LineAllSearched rs h found r after) answer
+
+abbrev pub LineFirstAnswered : Words → Words → Words → Type 0
+LineFirstAnswered rs h answer = InWords inOneWord line-first.paper (line-first.LineFirstSearched rs h) answer
 
 abbrev pub TreeAllAnswered : Words → Words → Words → Words → Words → Words → Words → Type 0
-TreeAllAnswered rs nodes pool h w after answer =
-    Answered (allInWords (treeAll rs nodes pool h (length w))) (treeAllWords rs nodes pool h w ∷ []) answer (after ∷ [])
+TreeAllAnswered rs nodes pool h found after answer =
+    InWords countsLast tree-all.paper (λ r. tree-all.TreeAllSearched rs nodes pool h found r after) answer
+
+abbrev pub TreeFirstAnswered : Words → Words → Words → Words → Words → Type 0
+TreeFirstAnswered rs nodes pool h answer =
+    InWords firstInWords tree-first.paper (tree-first.TreeFirstSearched rs nodes pool h) answer
+
+abbrev pub TreeCheckAnswered : Words → Words → Words → Words → Type 0
+TreeCheckAnswered rs nodes pool answer =
+    InWords plainly tree-check.paper (tree-check.TreeChecked rs nodes pool) answer
 
 abbrev pub RulesWriteAnswered : Words → Words → Words → Words → Type 0
-RulesWriteAnswered rs w after answer =
-    Answered (writeRules rs (length w)) (writeRulesBytes rs w ∷ []) answer (after ∷ [])
+RulesWriteAnswered rs found after answer =
+    InWords plainly rules-write.paper (λ r. rules-write.RulesWritten rs found r after) answer
 
 abbrev pub RulesReadAnswered : Words → Words → Words → Words → Type 0
-RulesReadAnswered s w after answer =
-    Answered (readRules s (length w)) (readRulesWords s w ∷ []) answer (after ∷ [])
+RulesReadAnswered s found after answer =
+    InWords plainly rules-read.paper (λ r. rules-read.RulesRead s found r after) answer
 
 abbrev pub TreeWriteAnswered : ℕ → Words → Words → Words → Words → Words → Type 0
-TreeWriteAnswered n nodes pool w after answer =
-    Answered (writeTree n nodes pool (length w)) (writeTreeBytes n nodes pool w ∷ []) answer (after ∷ [])
-
--- ---- the reader of the tree file, which is lent two outputs
+TreeWriteAnswered n nodes pool found after answer =
+    InWords plainly tree-write.paper (λ r. tree-write.TreeWritten n nodes pool found r after) answer
 
 abbrev pub TreeReadAnswered : Words → Words → Words → Words → Words → Words → Type 0
-TreeReadAnswered s v w nodes pool answer =
-    Answered (readTree s (length v) (length w)) (readNodes s v w ∷ readPool s v w ∷ []) answer (nodes ∷ pool ∷ [])
+TreeReadAnswered s nodes pool nodes′ pool′ answer =
+    InWords plainly tree-read.paper (λ r. tree-read.TreeRead s nodes pool r nodes′ pool′) answer

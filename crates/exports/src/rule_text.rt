@@ -5,7 +5,7 @@ use rule_file::write::Written;
 ghost use mathlib.Core.Path.{_≡_};
 ghost use Rattle.rule_file.specs.ReadRules as read;
 ghost use Rattle.rule_file.specs.WriteRules as written;
-ghost use Rattle.exports.specs.Answers.{eight};
+ghost use Rattle.exports.specs.Answers.{plainly, inWords};
 ghost use Rattle.exports.specs.Calls.{RulesWriteAnswered, RulesReadAnswered};
 
 // The value: the bytes that were written to `text`.
@@ -27,7 +27,7 @@ pub extern "C" fn wick_rules_read(text: &[u8], rules: &mut [u32], answer: &mut [
 }
 
 fn of_written(said: Written) -> [u64; 8]
-    ensures { λ r. ⌜ r ≡ eight (written.paper said) ⌝ }
+    ensures { λ r. ⌜ r ≡ inWords plainly (written.paper said) ⌝ }
 {
     match said {
         Written::Refused(why) => of_refusal(why),
@@ -36,7 +36,7 @@ fn of_written(said: Written) -> [u64; 8]
 }
 
 fn of_read(said: Read) -> [u64; 8]
-    ensures { λ r. ⌜ r ≡ eight (read.paper said) ⌝ }
+    ensures { λ r. ⌜ r ≡ inWords plainly (read.paper said) ⌝ }
 {
     match said {
         Read::Refused(why) => of_refusal(why),

@@ -5,7 +5,7 @@ use tree_file::write::Written;
 ghost use mathlib.Core.Path.{_≡_};
 ghost use Rattle.tree_file.specs.ReadTree as read;
 ghost use Rattle.tree_file.specs.WriteTree as written;
-ghost use Rattle.exports.specs.Answers.{eight};
+ghost use Rattle.exports.specs.Answers.{plainly, inWords};
 ghost use Rattle.exports.specs.Calls.{TreeWriteAnswered, TreeReadAnswered};
 
 // The value: the bytes that were written to `text`, there being `rules` rules.
@@ -38,7 +38,7 @@ pub extern "C" fn wick_tree_read(
 }
 
 fn of_written(said: Written) -> [u64; 8]
-    ensures { λ r. ⌜ r ≡ eight (written.paper said) ⌝ }
+    ensures { λ r. ⌜ r ≡ inWords plainly (written.paper said) ⌝ }
 {
     match said {
         Written::Refused(why) => of_refusal(why),
@@ -47,7 +47,7 @@ fn of_written(said: Written) -> [u64; 8]
 }
 
 fn of_read(said: Read) -> [u64; 8]
-    ensures { λ r. ⌜ r ≡ eight (read.paper said) ⌝ }
+    ensures { λ r. ⌜ r ≡ inWords plainly (read.paper said) ⌝ }
 {
     match said {
         Read::Refused(why) => of_refusal(why),

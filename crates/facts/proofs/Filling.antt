@@ -1,65 +1,69 @@
--- A loop that writes what is kept of a list, from the front of lent words on: its invariant, for any test and any list.
+-- A loop that stores what is kept of a list, from the front of lent words on, as far as there is room, and counts it:
+-- its invariant, for any test and any list.
 --   all      the list; rest what the loop has not looked at yet
---   before   the lent words as found; after as they are now; n of them are written
-use Prim.Native.Nat.{ℕ, _+_, _≤_, _<_}
-use native.Mathlib.Numerals.{add-one}
+--   before   the lent words as found; after as they are now; n numbers were kept so far
+use Prim.Native.Nat.{ℕ, suc, _+_, _≤_}
+use native.Mathlib.Nat.{zero-add}
 use native.Mathlib.Omega.{arith}
-use mathlib.Core.Bool.{Bool, true, false}
+use mathlib.Core.Bool.{Bool, true, false, cond}
 use mathlib.Core.Path.{_≡_, refl, sym, ap, _∙_}
 use mathlib.Core.List.{List, [], _∷_, _++_, append-nil, append-assoc}
-use lib.ListN.{length, take, drop, set, length-set, take-append-drop}
-use lib.Seq.{take-suc-set, drop-set-lt, drop-drop}
-use Rattle.facts.specs.Lists.{keep, written}
+use lib.ListN.{length, set, length-append}
+use lib.Seq.{sets, length-sets}
+use Rattle.facts.specs.Lists.{keep, Kept}
 use Rattle.facts.proofs.Steps.{keep-none, keep-in, keep-out}
-use Rattle.facts.proofs.Counting.{Counted, counted-first, counted-in, counted-out, counted-last}
+use Rattle.facts.proofs.Setting.{sets-append}
 
 pub record Filled (p : ℕ → Bool) (all rest before after : List ℕ) (n : ℕ) : Type 0 where
-  pub counted : Counted p all rest n
-  pub size : length after ≡ length before
-  pub front : take n after ++ keep p rest ≡ keep p all
-  pub back : drop n after ≡ drop n before
+  pub done : List ℕ
+  pub whole : done ++ keep p rest ≡ keep p all
+  pub count : n ≡ length done
+  pub words : after ≡ sets before 0 done
 
--- where the loop begins nothing is written, and all is left
+-- where the loop begins nothing is stored, and all is left
 pub filled-first : (p : ℕ → Bool) (all before : List ℕ) → Filled p all all before before 0
-filled-first p all before = record { counted = counted-first p all; size = refl; front = refl; back = refl }
+filled-first p all before = record { done = []; whole = refl; count = refl; words = refl }
 
-module _
-    {p : ℕ → Bool} {all rest next before after : List ℕ} {n x : ℕ} (w : Filled p all rest before after n)
-    (step : rest ≡ x ∷ next)
-  where
-    -- a number that passes has a word to stand in, if there is room for all that are kept
-    pub filled-room : length (keep p all) ≤ length before → p x ≡ true → n < length after
-    filled-room room t = omega (arith, w .size, w .counted .count, ap length (keep-in p x step t))
+module _ {p : ℕ → Bool} {all rest before after : List ℕ} {n : ℕ} (w : Filled p all rest before after n) where
+  -- the lent words stay as many
+  pub filled-size : length after ≡ length before
+  filled-size = ap length (w .words) ∙ length-sets before 0 (w .done)
 
-    -- a number that passes is written behind the others
-    pub filled-in : length (keep p all) ≤ length before → p x ≡ true → Filled p all next before (set after n x) (n + 1)
-    filled-in room t =
+  module _ {next : List ℕ} {x : ℕ} (step : rest ≡ x ∷ next) where
+    -- a number that passes is stored behind the others
+    pub filled-in : {new : List ℕ} → p x ≡ true → new ≡ set after n x → Filled p all next before new (n + 1)
+    filled-in t q =
         record {
-          counted = counted-in (w .counted) step t;
-          size = length-set after n x ∙ w .size;
-          front =
-              rw (add-one n, take-suc-set after n x (filled-room room t))
-              (append-assoc (take n after) (x ∷ []) (keep p next) ∙ rw (keep-in p x step t) at (w .front));
-          back =
-              drop-set-lt (n + 1) after n x (omega arith) ∙ sym (drop-drop 1 n after) ∙ ap (drop 1) (w .back) ∙
-              drop-drop 1 n before;
+          done = w .done ++ (x ∷ []);
+          whole = append-assoc (w .done) (x ∷ []) (keep p next) ∙ rw (keep-in p x step t) at (w .whole);
+          count = omega (arith, w .count, length-append (w .done) (x ∷ []));
+          words = q ∙ rw (w .words, w .count) (sym (sets-append before 0 (w .done) (x ∷ []) ∙ rw zero-add));
         }
 
     -- a number that fails leaves the words as they are
     pub filled-out : p x ≡ false → Filled p all next before after n
     filled-out t =
         record {
-          counted = counted-out (w .counted) step t;
-          size = w .size;
-          front = rw (keep-out p x step t) at (w .front);
-          back = w .back;
+          done = w .done;
+          whole = rw (keep-out p x step t) at (w .whole);
+          count = w .count;
+          words = w .words;
         }
 
--- at the end what is kept stands in front, and the rest is as found
-pub filled-last :
-    {p : ℕ → Bool} {all rest before after : List ℕ} {n : ℕ} → Filled p all rest before after n → rest ≡ [] →
-    after ≡ written (keep p all) before
-unfolding written
-filled-last {p} {all} {rest} {before} {after} {n} w none =
-    let front : take n after ≡ keep p all = sym (append-nil (take n after)) ∙ rw (keep-none p none) at (w .front) in
-    sym (take-append-drop n after) ∙ rw (front, w .back, counted-last (w .counted) none)
+  -- at the end all that is kept is stored and counted
+  pub filled-last : rest ≡ [] → Kept p all before n after
+  filled-last none =
+      let e : w .done ≡ keep p all = sym (append-nil (w .done)) ∙ rw (keep-none p none) at (w .whole) in
+      record { counts = w .count ∙ ap length e; stores = w .words ∙ ap (sets before 0) e }
+
+-- ---- how many there can be
+
+-- no more are kept than there are
+pub keep-at-most : (p : ℕ → Bool) (l : List ℕ) → length (keep p l) ≤ length l
+unfolding keep
+keep-at-most p [] = omega arith
+keep-at-most p (x ∷ xs) = go (p x) (keep-at-most p xs)
+  where
+    go : (t : Bool) → length (keep p xs) ≤ length xs → length (cond t (x ∷ keep p xs) (keep p xs)) ≤ suc (length xs)
+    go true h = omega arith
+    go false h = omega arith

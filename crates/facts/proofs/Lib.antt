@@ -10,7 +10,6 @@ pub mod Setting
 pub mod Members
 pub mod Rising
 pub mod Under
-pub mod Counting
 pub mod Filling
 pub mod Seeking
 pub mod Finding

@@ -1,4 +1,4 @@
--- What stands in a list: in a upFrom, and in what is kept of a list.
+-- What stands in a list: in numbers counted up, and in what is kept of a list.
 use Prim.Native.Nat.{ℕ, zero, suc, _+_, _≤_, _<_}
 use native.Mathlib.Omega.{arith}
 use mathlib.Core.Bool.{Bool, true, false, false≢true}
@@ -68,7 +68,7 @@ kept-of-has p (x ∷ xs) y e c = go (p x) refl (λ r. kept-of-has p xs y r c) (h
 pub kept-iff : (p : ℕ → Bool) (l : List ℕ) (y : ℕ) → (has (keep p l) y ≡ true) ↔ ((has l y ≡ true) × (p y ≡ true))
 kept-iff p l y = (λ e. has-of-kept p l y e, λ h. kept-of-has p l y (h .0) (h .1))
 
--- what stands in a upFrom lies between its ends
+-- what stands in numbers counted up lies between the ends
 pub has-of-up : (m i y : ℕ) → has (upFrom i m) y ≡ true → (i ≤ y) × (y < i + m)
 unfolding upFrom has
 has-of-up zero i y e = absurd (false≢true e)
@@ -91,6 +91,6 @@ up-has (suc m) i y l u = go (order i y) (λ k. up-has m (i + 1) y k (omega arith
     go (below k) r = has-tail i (upFrom (i + 1) m) y (r (omega arith))
     go (above k) r = absurd (omega arith)
 
--- a number stands in the upFrom from 0 exactly where it is below the run's length
+-- a number stands in the first n numbers exactly where it is below n
 pub up-iff : (n y : ℕ) → (has (upFrom 0 n) y ≡ true) ↔ (y < n)
 up-iff n y = (λ e. let h = has-of-up n 0 y e in omega arith, λ l. up-has n 0 y (omega arith) (omega arith))

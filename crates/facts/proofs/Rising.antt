@@ -1,4 +1,5 @@
--- Rising lists: a upFrom rises, and so does what is kept of a rising list; nothing in one is below its first number, and
+-- Rising lists: numbers counted up rise, and so does what is kept of a rising list; nothing in one is below its first
+-- number, and
 -- two with the same members are one.
 use Prim.Native.Nat.{ℕ, zero, suc, _+_, _≤_, _<_}
 use native.Mathlib.Omega.{arith}
@@ -39,7 +40,7 @@ rises-kept p a (x ∷ xs) e = go (p x) refl (rises-kept p (x + 1) xs (rises-head
     go true t r = rw (t, keep) (rises-cons a x (keep p xs) (rises-head a x xs e .0) r)
     go false t r = rw (t, keep) (rises-lower a (x + 1) (keep p xs) (omega (arith, rises-head a x xs e .0)) r)
 
--- a upFrom rises
+-- numbers counted up rise
 pub rises-up : (m i : ℕ) → rises i (upFrom i m) ≡ true
 unfolding upFrom rises
 rises-up zero i = refl

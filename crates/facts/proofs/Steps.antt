@@ -1,23 +1,30 @@
--- One step along a list: what a upFrom has left, what a list has from a place on, and what is kept of a list, by its head.
-use Prim.Native.Nat.{ℕ, suc, _+_, _-_, _≤_, _<_}
+-- One step along a list: what is left of numbers counted up, what a list has from a place on, and what is kept of a
+-- list, by its first number.
+use Prim.Native.Nat.{ℕ, zero, suc, _+_, _-_, _≤_, _<_}
 use native.Mathlib.Numerals.{add-one}
 use native.Mathlib.Omega.{arith}
 use mathlib.Core.Bool.{Bool, true, false}
-use mathlib.Core.Path.{_≡_}
+use mathlib.Core.Path.{_≡_, refl, ap}
 use mathlib.Core.List.{List, [], _∷_}
 use lib.ListN.{length, getD, drop, drop-of-length-le}
 use lib.Seq.{drop-cons}
 use Rattle.facts.specs.Lists.{upFrom, keep}
 
--- while i is below n, what is left of a upFrom up to n is i and what is left after it
+-- while i is below n, the numbers from i up to n are i and those after it
 pub up-step : (n i : ℕ) → i < n → upFrom i (n - i) ≡ i ∷ upFrom (i + 1) (n - (i + 1))
 unfolding upFrom
 up-step n i l = let e : n - i ≡ suc (n - (i + 1)) = omega arith in rw (e, upFrom)
 
--- from n on, nothing is left of a upFrom up to n
+-- from n on there are no numbers up to n
 pub up-end : (n i : ℕ) → n ≤ i → upFrom i (n - i) ≡ []
 unfolding upFrom
 up-end n i l = let e : n - i ≡ 0 = omega arith in rw (e, upFrom)
+
+-- m numbers counted up are m
+pub length-up : (m i : ℕ) → length (upFrom i m) ≡ m
+unfolding upFrom
+length-up zero i = refl
+length-up (suc m) i = ap suc (length-up m (i + 1))
 
 -- while i is below the length, a list has from i on what stands at i and what it has after it
 pub drop-step : (l : List ℕ) (i : ℕ) → i < length l → drop i l ≡ getD l i 0 ∷ drop (i + 1) l

@@ -13,10 +13,10 @@ use Rattle.refusals.specs.declared.Verdict.{Verdict}
 use Rattle.refusals.specs.declared.Verdict.the-variants as verdict
 use Rattle.refusals.specs.Order.{_then_}
 use Rattle.refusals.proofs.Order.{then-fine, then-refused, leaving-fine}
-use Rattle.refusals.proofs.Giving.{success-giving, refusal-giving}
+use Rattle.refusals.proofs.Promises.{refused-by, fine-by}
 use Rattle.tree_check.specs.declared.check.TreeAnswer.{TreeAnswer}
 use Rattle.tree_check.specs.declared.check.TreeAnswer.the-variants as checked
-use Rattle.tree_check.specs.TreeCheck.{checkVerdict, treeCheck, TreeChecked}
+use Rattle.tree_check.specs.TreeCheck.{checkVerdict, TreeChecked}
 use Rattle.tree_check.specs.TreeCheck as check
 use Rattle.tree_file.specs.ReadTree.{verdictOf, nodesOf, poolOf}
 use Rattle.console.specs.Replies.{searchVerdict, searchList, answerTo}
@@ -46,21 +46,18 @@ serving-fine ns es e = rw e
 
 -- ---- what the tree check said
 
-module _ {rs ns es : List ℕ} {r : TreeAnswer} (c : TreeChecked rs ns es r) where
+module _ (rs ns es : List ℕ) {r : TreeAnswer} (c : TreeChecked rs ns es r) where
   -- its refusal
   pub check-refused :
       {why : Refusal} → r ≡ checked.Refused why →
       serving (verdict.Refused why) [] [] ≡ serving (checkVerdict rs ns es) ns es
-  unfolding treeCheck
-  check-refused {why} e =
-      serving-refused ns es (refusal-giving _ _ {why = why} (ap check.paper (sym e) ∙ c .answers))
+  check-refused {why} e = serving-refused ns es (refused-by c {why = why} (ap check.paper e))
 
   -- a tree that it accepts
   pub check-accepted :
       {cuts longest : ℕ} → r ≡ checked.Accepted cuts longest →
       byTree (length ns) (length es) ≡ serving (checkVerdict rs ns es) ns es
-  unfolding treeCheck
-  check-accepted e = serving-fine ns es (success-giving _ _ (ap check.paper (sym e) ∙ c .answers) .0)
+  check-accepted e = serving-fine ns es (fine-by c (ap check.paper e) .0)
 
 -- ---- what was taken
 

@@ -1,13 +1,12 @@
 -- The line search for the first match. Definitions only.
 --   paper            an answer of the search, on paper: the number of the first match, or no value for none
 --   firstOf ms       the same for the first of the numbers ms; the tree search says it so too
---   lineFirst rs h   1, 2, 3; else the lowest number that matches
---   LineFirstSearched    the promise: the answer is as defined
+--   LineFirstSearched    the promise: 1, 2, 3; else the lowest number that matches
 use Prim.Native.Nat.{ℕ}
-use mathlib.Core.Path.{_≡_}
 use mathlib.Core.List.{List, [], _∷_}
 use Rattle.refusals.specs.Paper.{Paper, success, onPaper}
-use Rattle.refusals.specs.Order.{_then_, _giving_}
+use Rattle.refusals.specs.Order.{_then_}
+use Rattle.refusals.specs.Promises.{Says}
 use Rattle.fields.specs.Headers.{headerVerdict}
 use Rattle.rules.specs.declared.line.First.{First}
 use Rattle.rules.specs.declared.line.First.the-variants.{Refused, Rule, NoRule}
@@ -23,8 +22,5 @@ abbrev pub firstOf : List ℕ → List ℕ
 firstOf [] = []
 firstOf (r ∷ rest) = r ∷ []
 
-unfoldable pub lineFirst : List ℕ → List ℕ → Paper
-lineFirst rs h = (listVerdict rs then headerVerdict h) giving firstOf (matching rs h)
-
-pub record LineFirstSearched (rs h : List ℕ) (r : First) : Type 0 where
-  pub answers : paper r ≡ lineFirst rs h
+abbrev pub LineFirstSearched : List ℕ → List ℕ → First → Type 0
+LineFirstSearched rs h r = Says paper (listVerdict rs then headerVerdict h) (firstOf (matching rs h)) r

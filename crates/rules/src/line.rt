@@ -3,19 +3,18 @@ use crate::check::list_verdict;
 use crate::matching::matches;
 use crate::words::RULE_WORDS;
 use fields::header::header_verdict;
+use lent::store;
 use refusals::Refusal;
 use refusals::Verdict;
 ghost use mathlib.Core.Path.{_≡_};
 ghost use lib.ListN.{length};
-ghost use Rattle.refusals.specs.Order.{_then_, roomVerdict};
-ghost use Rattle.refusals.specs.Paper.{success};
+ghost use Rattle.refusals.specs.Order.{_then_};
 ghost use Rattle.fields.specs.Words.{fieldCount};
 ghost use Rattle.fields.specs.Headers.{headerVerdict};
 ghost use Rattle.rules.specs.Good.{listVerdict};
-ghost use Rattle.rules.specs.Matching.{matching};
-ghost use Rattle.rules.specs.LineAll.{allVerdict, LineAllSearched};
+ghost use Rattle.rules.specs.LineAll.{LineAllSearched};
 ghost use Rattle.rules.specs.LineFirst.{LineFirstSearched};
-ghost use Rattle.rules.specs.LineSteps.{Room, Written, FirstIs};
+ghost use Rattle.rules.specs.LineSteps.{Searchable, MatchesListed, MatchesKept, FirstIs};
 
 pub enum Listed {
     Refused(Refusal),
@@ -34,11 +33,9 @@ pub fn line_all(rules: &[u32], header: &[u32], out: &mut [u32]) -> Listed
     ensures { λ r. ⌜ LineAllSearched (now (rules .entry)) (now (header .entry)) (now (out .entry)) r
         (now (out .exit)) ⌝ }
 {
-    match all_verdict(rules, header, out.len()) {
+    match line_verdict(rules, header) {
         Verdict::Refused(why) => Listed::Refused(why),
-        Verdict::Fine => Listed::Found {
-            count: write_matches(rules, header, out),
-        },
+        Verdict::Fine => list_matches(rules, header, out),
     }
 }
 
@@ -62,59 +59,37 @@ fn line_verdict(rules: &[u32], header: &[u32]) -> Verdict
     }
 }
 
-// What the search for all matches refuses: the list, the header, and then too little room.
-fn all_verdict(rules: &[u32], header: &[u32], room: usize) -> Verdict
-    ensures { λ r. ⌜ r ≡ allVerdict (now (rules .entry)) (now (header .entry)) room ⌝ }
+// Every match, if there is room for them all. Where the room holds the whole list, nothing need be counted first.
+fn list_matches(rules: &[u32], header: &[u32], out: &mut [u32]) -> Listed
+    requires { ⌜ Searchable (now rules) (now header) ⌝ }
+    ensures { λ r. ⌜ MatchesListed (now (rules .entry)) (now (header .entry)) (now (out .entry)) r
+        (now (out .exit)) ⌝ }
 {
-    match line_verdict(rules, header) {
-        Verdict::Refused(why) => Verdict::Refused(why),
-        Verdict::Fine => room_verdict(rules, header, room),
+    if rules.len() / RULE_WORDS <= out.len() {
+        return Listed::Found {
+            count: store_matches(rules, header, out),
+        };
+    }
+    let needed = store_matches(rules, header, &mut out[..0]);
+    if out.len() < needed {
+        return Listed::Refused(Refusal::OutputShort { needed, output: 0 });
+    }
+    Listed::Found {
+        count: store_matches(rules, header, out),
     }
 }
 
-// Whether the room holds every match. Where it holds the whole list, nothing need be counted.
-fn room_verdict(rules: &[u32], header: &[u32], room: usize) -> Verdict
-    requires { ⌜ length (now header) ≡ fieldCount ⌝ }
-    ensures { λ r. ⌜ r ≡ roomVerdict (length (matching (now (rules .entry)) (now (header .entry)))) room ⌝ }
-{
-    if rules.len() / RULE_WORDS <= room {
-        return Verdict::Fine;
-    }
-    let needed = count_matches(rules, header);
-    if room < needed {
-        return Verdict::Refused(Refusal::OutputShort { needed, output: 0 });
-    }
-    Verdict::Fine
-}
-
-// How many rules match.
-fn count_matches(rules: &[u32], header: &[u32]) -> usize
-    requires { ⌜ length (now header) ≡ fieldCount ⌝ }
-    ensures { λ n. ⌜ n ≡ length (matching (now (rules .entry)) (now (header .entry))) ⌝ }
+// Stores the numbers of the rules that match as far as there is room, and says how many match.
+fn store_matches(rules: &[u32], header: &[u32], out: &mut [u32]) -> usize
+    requires { ⌜ Searchable (now rules) (now header) ⌝ }
+    ensures { λ n. ⌜ MatchesKept (now (rules .entry)) (now (header .entry)) (now (out .entry)) n (now (out .exit)) ⌝ }
 {
     let count = rules.len() / RULE_WORDS;
     let mut n = 0;
     let mut r = 0;
     while r < count {
         if matches(rules, header, r) {
-            n += 1;
-        }
-        r += 1;
-    }
-    n
-}
-
-// Writes the numbers of the rules that match, and says how many.
-fn write_matches(rules: &[u32], header: &[u32], out: &mut [u32]) -> usize
-    requires { ⌜ Room (now rules) (now header) (now out) ⌝ }
-    ensures { λ n. ⌜ Written (now (rules .entry)) (now (header .entry)) (now (out .entry)) n (now (out .exit)) ⌝ }
-{
-    let count = rules.len() / RULE_WORDS;
-    let mut n = 0;
-    let mut r = 0;
-    while r < count {
-        if matches(rules, header, r) {
-            out[n] = r as u32;
+            store(out, n, r as u32);
             n += 1;
         }
         r += 1;

@@ -7,7 +7,7 @@
 --   readLine w ms l         the numbers of the line l, if it is a line of this format, its newline apart
 --   readCounted w l         those of a line of numbers behind tabs, of which the second says how many follow it
 --   printLine w ms vs       the line of this format with the numbers vs
---   EachUnder lim vs         every number is below lim
+--   EachUnder lim vs        every number is below lim
 use Prim.Native.Nat.{ℕ, _^_, _<_}
 use mathlib.Core.Bool.{Bool, true, false, cond}
 use mathlib.Core.List.{List, [], _∷_, _++_}

@@ -5,52 +5,36 @@ use mathlib.Core.Path.{_≡_, refl, sym, ap, _∙_}
 use mathlib.Core.Logic.{_↔_}
 use mathlib.Core.List.{List, [], _∷_}
 use Rattle.refusals.specs.declared.Refusal.{Refusal}
-use Rattle.refusals.specs.declared.Verdict.{Verdict}
 use Rattle.refusals.specs.declared.Verdict.the-variants as verdict
 use Rattle.refusals.specs.Paper.{success}
-use Rattle.refusals.proofs.Order.{giving-fine, giving-refused}
-use Rattle.refusals.proofs.Unique.{on-paper-unique, refusal-not-success}
+use Rattle.refusals.proofs.Promises.{says-refused, says-fine, refused-by, fine-by}
 use Rattle.tree_check.specs.declared.preorder.Lack.the-variants.{Complete}
 use Rattle.tree_check.specs.declared.check.TreeAnswer.the-variants.{Refused, Accepted}
-use Rattle.tree_check.specs.TreeCheck.{figures, checkVerdict, treeCheck, TreeChecked}
+use Rattle.tree_check.specs.TreeCheck.{figures, checkVerdict, TreeChecked}
 use Rattle.tree_check.specs.Figures.{Figures}
 use Rattle.tree_check.proofs.Stages.{Reached, lack-decides, formed}
 use Rattle.tree_check.proofs.Accepts.{accepted}
 use Rattle.tree_check.proofs.Figures.{figures-met}
 
-module _ {rs nodes pool : List ℕ} where
+module _ (rs nodes pool : List ℕ) where
   -- the answer is a refusal exactly where the check refuses so
   pub refused-iff :
       {why : Refusal} → TreeChecked rs nodes pool (Refused why) ↔ (checkVerdict rs nodes pool ≡ verdict.Refused why)
-  unfolding treeCheck
-  refused-iff {why} = (λ p. to p (checkVerdict rs nodes pool) refl, λ e. record { answers = sym (giving-refused _ e) })
-    where
-      to :
-          TreeChecked rs nodes pool (Refused why) → (v : Verdict) → checkVerdict rs nodes pool ≡ v →
-          checkVerdict rs nodes pool ≡ verdict.Refused why
-      to p verdict.Fine e = refusal-not-success (p .answers ∙ giving-fine _ e)
-      to p (verdict.Refused x) e =
-          e ∙ ap verdict.Refused (sym (on-paper-unique why x (p .answers ∙ giving-refused _ e)))
+  refused-iff = (λ p. refused-by p refl, λ e. says-refused e refl)
 
   -- an accepted tree's answer is the figures of its root's part
   pub accepted-says : {c l : ℕ} → Reached rs nodes pool c l Complete → TreeChecked rs nodes pool (Accepted c l)
-  unfolding treeCheck
-  accepted-says t = record { answers = sym (giving-fine _ (lack-decides t) ∙ ap (λ p. success (figures p)) (t .root)) }
+  accepted-says t = says-fine (lack-decides t) (sym (ap (λ p. success (figures p)) (t .root)))
 
   -- where the answer is that the tree is accepted, its root's part is reached, with these figures and without a lack
   pub accepted-means : {c l : ℕ} → TreeChecked rs nodes pool (Accepted c l) → Reached rs nodes pool c l Complete
-  unfolding treeCheck
-  accepted-means {c} {l} p = go (checkVerdict rs nodes pool) refl
-    where
-      go : (v : Verdict) → checkVerdict rs nodes pool ≡ v → Reached rs nodes pool c l Complete
-      go (verdict.Refused why) e = refusal-not-success (sym (p .answers ∙ giving-refused _ e))
-      go verdict.Fine e =
-          let t = accepted rs nodes pool e in
-          let said : success (c ∷ l ∷ []) ≡ success (t .0 ∷ t .1 ∷ []) =
-          p .answers ∙ sym (accepted-says (t .2) .answers) in
-          let cuts : t .0 ≡ c = cc in
-          let longest : t .1 ≡ l = cc in
-          rw (cuts, longest) at (t .2)
+  accepted-means {c} {l} p =
+      let f = fine-by p refl in
+      let t = accepted rs nodes pool (f .0) in
+      let same : c ∷ l ∷ [] ≡ t .0 ∷ t .1 ∷ [] = f .1 ∙ ap figures (t .2 .root) in
+      let cuts : t .0 ≡ c = cc in
+      let longest : t .1 ≡ l = cc in
+      rw (cuts, longest) at (t .2)
 
   -- the two numbers of an accepted tree's answer bound every legal header, and each is met by one
   pub accepted-figures : {c l : ℕ} → TreeChecked rs nodes pool (Accepted c l) → Figures nodes pool c l

@@ -6,11 +6,10 @@ use mathlib.Core.List.{List}
 use borrow.Author.Tests.{eq-eqb, ne-eqb}
 use Rattle.refusals.specs.declared.Refusal.{Refusal}
 use Rattle.refusals.specs.declared.Refusal.the-variants.{NodeWrong, LeafLacksRule}
-use Rattle.refusals.specs.declared.Verdict.{Verdict}
 use Rattle.refusals.specs.declared.Verdict.the-variants as verdict
-use Rattle.refusals.specs.Order.{_giving_}
+use Rattle.refusals.specs.Paper.{success}
 use Rattle.refusals.proofs.Order.{holds-fine, fails-refused, then-fine, then-refused, then-fine-iff}
-use Rattle.refusals.proofs.Order.{giving-refused, giving-fine}
+use Rattle.refusals.proofs.Promises.{says-refused, says-fine, says-after}
 use Rattle.rules.specs.Words.{ruleCount}
 use Rattle.rules.specs.Good.{listVerdict}
 use Rattle.trees.specs.Words.{nodeCount, sizeVerdict}
@@ -23,42 +22,32 @@ use Rattle.tree_check.specs.declared.preorder.Part.the-variants as part
 use Rattle.tree_check.specs.declared.check.TreeAnswer.{TreeAnswer}
 use Rattle.tree_check.specs.declared.check.TreeAnswer.the-variants.{Refused, Accepted}
 use Rattle.tree_check.specs.TreeCheck.{rootPart, lackVerdict, partVerdict, figures}
-use Rattle.tree_check.specs.TreeCheck.{wordsVerdict, checkVerdict, treeCheck, TreeChecked}
+use Rattle.tree_check.specs.TreeCheck.{wordsVerdict, checkVerdict, TreeChecked}
 use Rattle.tree_check.specs.Steps.{Judged}
 
 -- ---- the root's part
 
 -- a part that is refused is the refusal
 pub judged-refused : (m : ℕ) (p : Part) {why : Refusal} → p ≡ part.Refused why → Judged m p (Refused why)
-judged-refused m p e =
-    record { says = sym (ap (λ (x : Part). partVerdict m x giving figures x) e ∙ giving-refused _ refl) }
+judged-refused m p e = says-refused (ap (partVerdict m) e) refl
 
 module _ (m : ℕ) (p : Part) {next cuts longest : ℕ} {lack : Lack} (e : p ≡ part.Good next cuts longest lack) where
   -- a node left over is refused
   pub judged-left-over : (next ≡ m → ⊥) → Judged m p (Refused (NodeWrong next))
   judged-left-over n =
-      record {
-        says =
-            sym
-            (ap (λ (x : Part). partVerdict m x giving figures x) e ∙
-            giving-refused _ (then-refused _ (fails-refused _ (ne-eqb next m n))));
-      }
+      says-refused (ap (partVerdict m) e ∙ then-refused _ (fails-refused _ (ne-eqb next m n))) refl
 
   module _ (q : next ≡ m) where
-    whole : (lackVerdict lack giving figures (part.Good next cuts longest lack)) ≡ (partVerdict m p giving figures p)
-    whole =
-        sym
-        (ap (λ (x : Part). partVerdict m x giving figures x) e ∙
-        ap (λ (v : Verdict). v giving figures (part.Good next cuts longest lack))
-        (then-fine (lackVerdict lack) (holds-fine (NodeWrong next) (eq-eqb next m q))))
+    whole : partVerdict m p ≡ lackVerdict lack
+    whole = ap (partVerdict m) e ∙ then-fine (lackVerdict lack) (holds-fine (NodeWrong next) (eq-eqb next m q))
 
     -- a tree that lacks nothing is accepted
     pub judged-accepted : lack ≡ Complete → Judged m p (Accepted cuts longest)
-    judged-accepted c = record { says = sym (giving-fine _ (ap lackVerdict c)) ∙ whole }
+    judged-accepted c = says-fine (whole ∙ ap lackVerdict c) (sym (ap (λ (x : Part). success (figures x)) e))
 
     -- a leaf that lacks a rule is refused
     pub judged-lacking : {node rule : ℕ} → lack ≡ Lacks node rule → Judged m p (Refused (LeafLacksRule node rule))
-    judged-lacking c = record { says = sym (giving-refused _ (ap lackVerdict c)) ∙ whole }
+    judged-lacking c = says-refused (whole ∙ ap lackVerdict c) refl
 
 -- ---- the whole check
 
@@ -66,20 +55,15 @@ module _ (rs nodes pool : List ℕ) where
   -- words that are refused are the refusal
   pub words-refused :
       {why : Refusal} → wordsVerdict rs nodes pool ≡ verdict.Refused why → TreeChecked rs nodes pool (Refused why)
-  unfolding treeCheck checkVerdict
-  words-refused e = record { answers = sym (giving-refused _ (then-refused _ e)) }
+  unfolding checkVerdict
+  words-refused e = says-refused (then-refused _ e) refl
 
   -- where they are not refused the root's part decides
   pub part-decides :
       wordsVerdict rs nodes pool ≡ verdict.Fine → {p : Part} {r : TreeAnswer} → p ≡ rootPart rs nodes pool →
       Judged (nodeCount nodes) p r → TreeChecked rs nodes pool r
-  unfolding treeCheck checkVerdict
-  part-decides e q j =
-      record {
-        answers =
-            j .says ∙ ap (λ (x : Part). partVerdict (nodeCount nodes) x giving figures x) q ∙
-            sym (ap (λ (v : Verdict). v giving figures (rootPart rs nodes pool)) (then-fine _ e));
-      }
+  unfolding checkVerdict
+  part-decides e q j = says-after e (rw q at j)
 
 -- ---- the words
 

@@ -66,15 +66,15 @@ module _
       WellFormed (ruleCount rs) nodes pool → ⊥
   not-refused m p w =
       let t = reaches (record { list = list; sizes = size; formed = w }) in
-      not-of-lack (t .2) m (sym (lack-decides (t .3)) ∙ refused-iff .0 p)
+      not-of-lack (t .2) m (sym (lack-decides (t .3)) ∙ refused-iff _ _ _ .0 p)
 
   -- a tree that is not well formed is refused with 6 or 7
   refuses-malformed :
       (WellFormed (ruleCount rs) nodes pool → ⊥) → {v : Verdict} → checkVerdict rs nodes pool ≡ v → Only OfTree v →
       (i : ℕ) × (TreeChecked rs nodes pool (Refused (NodeWrong i)) ⊎ TreeChecked rs nodes pool (Refused (LeafWrong i)))
   refuses-malformed bad e fine = absurd (bad (proper (accepted rs nodes pool e .2) .formed))
-  refuses-malformed bad e (refused (malformed (six {i}))) = (i, inl (refused-iff .1 e))
-  refuses-malformed bad e (refused (malformed (seven {i}))) = (i, inr (refused-iff .1 e))
+  refuses-malformed bad e (refused (malformed (six {i}))) = (i, inl (refused-iff _ _ _ .1 e))
+  refuses-malformed bad e (refused (malformed (seven {i}))) = (i, inr (refused-iff _ _ _ .1 e))
   refuses-malformed bad e (refused (lacks {i} {r})) =
       absurd (bad (eight-iff rs nodes pool .0 (i, r, e) .proper .formed))
 

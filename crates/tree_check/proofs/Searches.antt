@@ -1,29 +1,29 @@
 -- Searches by an accepted tree: they refuse what the line search refuses, and give what it gives.
 use Prim.Native.Nat.{ℕ, _+_}
 use mathlib.Core.Path.{_≡_, refl, sym, ap, _∙_}
-use mathlib.Core.List.{List, [], _∷_}
+use mathlib.Core.List.{List}
 use lib.ListN.{length}
 use borrow.Author.Tests.{le-leb}
 use Rattle.facts.proofs.Under.{all-under-iff-has}
 use Rattle.refusals.specs.declared.Verdict.{Verdict}
 use Rattle.refusals.specs.declared.Verdict.the-variants.{Fine, Refused}
 use Rattle.refusals.specs.Paper.{success}
-use Rattle.refusals.specs.Order.{roomVerdict, _then_}
-use Rattle.refusals.proofs.Order.{holds-fine, then-fine, then-refused, giving-fine, giving-refused, leaving-refused}
+use Rattle.refusals.specs.Order.{roomVerdict, _then_, _giving_}
+use Rattle.refusals.proofs.Order.{holds-fine, then-fine, then-refused, giving-fine, giving-refused}
+use Rattle.refusals.proofs.Promises.{left-found}
 use Rattle.fields.specs.Headers.{headerVerdict, Legal}
 use Rattle.rules.specs.Words.{ruleCount}
 use Rattle.rules.specs.Good.{listVerdict}
-use Rattle.rules.specs.Matching.{matches, matching}
-use Rattle.rules.specs.LineAll.{allVerdict, lineAllWords}
-use Rattle.rules.specs.LineFirst.{firstOf, lineFirst}
+use Rattle.rules.specs.Matching.{matching}
+use Rattle.rules.specs.declared.line.Listed.{Listed}
+use Rattle.rules.specs.LineAll.{allVerdict, LineAllSearched}
+use Rattle.rules.specs.LineFirst.{firstOf}
 use Rattle.trees.specs.Words.{startOf, countOf, entries}
-use Rattle.trees.specs.Walk.{Walk, walkOf, leafOf, visited}
-use Rattle.trees.specs.Search.{walkVerdict, leafVerdict, reachVerdict, leafList, treeList, lookedAt}
-use Rattle.trees.specs.Counted.{counted, said, counting}
-use Rattle.trees.specs.TreeAll.{treeAllVerdict, treeAll, treeAllWords}
-use Rattle.trees.specs.TreeFirst.{treeFirst}
+use Rattle.trees.specs.declared.search.TreeListed.{TreeListed}
+use Rattle.trees.specs.Walk.{Walk, leafOf}
+use Rattle.trees.specs.Search.{walkVerdict, leafVerdict, reachVerdict, treeList}
+use Rattle.trees.specs.TreeAll.{treeAllVerdict, TreeAllSearched}
 use Rattle.trees.specs.Spelt.{SpeltLeaf}
-use Rattle.trees.proofs.Counting.{counting-refused, counting-fine}
 use Rattle.tree_check.specs.declared.preorder.Lack.{Lack}
 use Rattle.tree_check.specs.TreeCheck.{checkVerdict}
 use Rattle.tree_check.proofs.Comes.{Formed, finds, leaf-of, comes}
@@ -75,48 +75,37 @@ module _ (rs nodes pool : List ℕ) (ok : checkVerdict rs nodes pool ≡ Fine) w
       go (Refused why) k = then-refused _ (then-refused _ k) ∙ sym (then-fine _ list ∙ then-refused _ k)
 
   -- it leaves in any lent words what the line search leaves
-  pub same-words : (h found : List ℕ) → treeAllWords rs nodes pool h found ≡ lineAllWords rs h found
-  unfolding treeAllWords lineAllWords allVerdict
-  same-words h found = go (headerVerdict h) refl
+  pub same-words :
+      (h found : List ℕ) {r : TreeListed} {s : Listed} {v u : List ℕ} → TreeAllSearched rs nodes pool h found r v →
+      LineAllSearched rs h found s u → v ≡ u
+  unfolding allVerdict
+  same-words h found {v = v} {u = u} p q = go (headerVerdict h) refl
     where
       same : treeAllVerdict rs nodes pool h (length found) ≡ allVerdict rs h (length found)
       same = same-verdict h (length found)
 
-      go : (v : Verdict) → headerVerdict h ≡ v → treeAllWords rs nodes pool h found ≡ lineAllWords rs h found
-      go Fine k = rw (same, same-list h k)
+      go : (x : Verdict) → headerVerdict h ≡ x → v ≡ u
+      go Fine k = p .leaves ∙ rw (same, same-list h k) (sym (q .leaves))
       go (Refused why) k =
           let line = then-fine _ (accepted rs nodes pool ok .2 .list) ∙ then-refused _ k in
-          leaving-refused _ _ (same ∙ line) ∙ sym (leaving-refused _ _ line)
+          left-found p (same ∙ line) ∙ sym (left-found q line)
 
-  module _ (h : List ℕ) (k : Legal h) where
-    -- of a legal header it says how many match, where the room is enough, with the nodes visited and the leaf's length
-    pub tree-all-is :
-        (room : ℕ) → treeAll rs nodes pool h room ≡
-        counting (roomVerdict (length (matching rs h)) room) (length (matching rs h) ∷ []) (visited (walkOf nodes h))
-        (length (leafList nodes pool h))
-    unfolding treeAll treeAllVerdict _then_
-    tree-all-is room = rw (refuses-none h k, same-list h k)
-
-    -- the line search for the first match gives the first of its list
-    pub line-first-is : lineFirst rs h ≡ success (firstOf (matching rs h))
-    unfolding lineFirst
-    line-first-is = giving-fine _ (then-fine _ (accepted rs nodes pool ok .2 .list) ∙ k)
-
-    -- the tree search for the first match gives the first of the line search's list
-    pub tree-first-is :
-        treeFirst rs nodes pool h ≡
-        counted (success (firstOf (matching rs h))) (visited (walkOf nodes h))
-        (length (lookedAt (matches rs h) (leafList nodes pool h)))
-    unfolding treeFirst
-    tree-first-is = counting-fine _ _ _ (refuses-none h k) ∙ rw (same-list h k)
-
-  -- of any header the search for the first match says what the line search says
-  pub same-first : (h : List ℕ) → said (treeFirst rs nodes pool h) ≡ lineFirst rs h
-  unfolding treeFirst reachVerdict lineFirst
+  -- of any header the search for the first match refuses or finds what the line search does
+  pub same-first :
+      (h : List ℕ) →
+      (reachVerdict rs nodes pool h giving firstOf (treeList rs nodes pool h)) ≡
+      ((listVerdict rs then headerVerdict h) giving firstOf (matching rs h))
+  unfolding reachVerdict
   same-first h = go (headerVerdict h) refl
     where
-      go : (v : Verdict) → headerVerdict h ≡ v → said (treeFirst rs nodes pool h) ≡ lineFirst rs h
-      go Fine k = ap said (tree-first-is h k) ∙ sym (line-first-is h k)
-      go (Refused why) k =
-          ap said (counting-refused _ _ _ (then-refused _ k)) ∙
-          sym (giving-refused _ (then-fine _ (accepted rs nodes pool ok .2 .list) ∙ k))
+      list : listVerdict rs ≡ Fine
+      list = accepted rs nodes pool ok .2 .list
+
+      go :
+          (x : Verdict) → headerVerdict h ≡ x →
+          (reachVerdict rs nodes pool h giving firstOf (treeList rs nodes pool h)) ≡
+          ((listVerdict rs then headerVerdict h) giving firstOf (matching rs h))
+      go Fine k =
+          giving-fine _ (refuses-none h k) ∙ ap (λ (ms : List ℕ). success (firstOf ms)) (same-list h k) ∙
+          sym (giving-fine _ (then-fine _ list ∙ k))
+      go (Refused why) k = giving-refused _ (then-refused _ k) ∙ sym (giving-refused _ (then-fine _ list ∙ k))

@@ -7,7 +7,7 @@ use mathlib.Core.Bool.{cond}
 use mathlib.Core.Path.{_≡_}
 use mathlib.Core.List.{List}
 use lib.Dec.{eqb}
-use Rattle.refusals.specs.Order.{_giving_}
+use Rattle.refusals.specs.Promises.{Says}
 use Rattle.fields.specs.Cuts.{divides}
 use Rattle.trees.specs.declared.words.Node.{Node}
 use Rattle.trees.specs.declared.words.Node.the-variants as node
@@ -32,5 +32,5 @@ unfoldable pub Shallow : Part → Type 0
 Shallow (Refused why) = Unit {0}
 Shallow (Good next cuts longest lack) = cuts < 2 ^ 63
 
-pub record Judged (m : ℕ) (p : Part) (r : TreeAnswer) : Type 0 where
-  pub says : paper r ≡ (partVerdict m p giving figures p)
+abbrev pub Judged : ℕ → Part → TreeAnswer → Type 0
+Judged m p r = Says paper (partVerdict m p) (figures p) r

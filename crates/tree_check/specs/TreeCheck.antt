@@ -4,17 +4,17 @@
 --   partVerdict m p  what the root's part says of a tree of m nodes: its refusal, 6 at the first node left over, then 8
 --   wordsVerdict     1, 2, then 5, then *spelt*
 --   checkVerdict     those, then the preorder walk, then 8
---   treeCheck        what the check says
---   TreeChecked      the promise: the answer is as defined
+--   figures p        the most cuts above a leaf of the part p, and its longest leaf
+--   TreeChecked      the promise: what checkVerdict refuses; else the figures of the root's part
 use Prim.Native.Nat.{ℕ, zero}
-use mathlib.Core.Path.{_≡_}
 use mathlib.Core.List.{List, [], _∷_}
 use lib.Dec.{eqb}
 use Rattle.refusals.specs.declared.Refusal.the-variants.{NodeWrong, LeafLacksRule}
 use Rattle.refusals.specs.declared.Verdict.{Verdict}
 use Rattle.refusals.specs.declared.Verdict.the-variants as verdict
 use Rattle.refusals.specs.Paper.{Paper, success, onPaper}
-use Rattle.refusals.specs.Order.{refuseUnless, _then_, _giving_}
+use Rattle.refusals.specs.Order.{refuseUnless, _then_}
+use Rattle.refusals.specs.Promises.{Says}
 use Rattle.fields.specs.Boxes.{rootBox}
 use Rattle.rules.specs.Words.{ruleCount}
 use Rattle.rules.specs.Good.{listVerdict}
@@ -55,8 +55,5 @@ unfoldable pub checkVerdict : List ℕ → List ℕ → List ℕ → Verdict
 checkVerdict rs nodes pool =
     wordsVerdict rs nodes pool then partVerdict (nodeCount nodes) (rootPart rs nodes pool)
 
-unfoldable pub treeCheck : List ℕ → List ℕ → List ℕ → Paper
-treeCheck rs nodes pool = checkVerdict rs nodes pool giving figures (rootPart rs nodes pool)
-
-pub record TreeChecked (rs nodes pool : List ℕ) (r : TreeAnswer) : Type 0 where
-  pub answers : paper r ≡ treeCheck rs nodes pool
+abbrev pub TreeChecked : List ℕ → List ℕ → List ℕ → TreeAnswer → Type 0
+TreeChecked rs nodes pool r = Says paper (checkVerdict rs nodes pool) (figures (rootPart rs nodes pool)) r

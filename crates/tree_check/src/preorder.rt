@@ -3,6 +3,7 @@ use fields::bounds::Bounds;
 use fields::bounds::divides;
 use fields::bounds::left_part;
 use fields::bounds::right_part;
+use lent::wide;
 use refusals::Refusal;
 use rules::lacking::lowest_lacking;
 use rules::words::RULE_WORDS;
@@ -218,13 +219,6 @@ fn larger(a: usize, b: usize) -> usize
         return b;
     }
     a
-}
-
-// A word of 32 bits as a place.
-fn wide(word: u32) -> usize
-    ensures { λ r. ⌜ (r ≡ word) × (r < 2 ^ 32) ⌝ }
-{
-    word as usize
 }
 
 // The number after one of 32 bits.

@@ -1,16 +1,15 @@
 -- The answers of the tree search: a refusal on the way is the answer, and at a leaf that was reached its entries
 -- decide.
 use Prim.Native.Nat.{ℕ, _+_, _-_, _≤_}
-use mathlib.Core.Path.{_≡_, sym, ap, _∙_}
+use mathlib.Core.Path.{_≡_, refl, ap}
 use mathlib.Core.List.{List}
 use lib.ListN.{length, take, drop}
 use borrow.Author.Tests.{leb-true}
 use Rattle.facts.specs.Lists.{keep}
 use Rattle.refusals.specs.declared.Refusal.{Refusal}
-use Rattle.refusals.specs.declared.Verdict.the-variants.{Fine, Refused}
-use Rattle.refusals.specs.Order.{_then_, roomVerdict}
-use Rattle.refusals.proofs.Order.{fine-iff-holds, then-fine, then-refused, then-fine-iff}
-use Rattle.refusals.proofs.Order.{leaving-refused, leaving-fine}
+use Rattle.refusals.specs.declared.Verdict.the-variants.{Fine}
+use Rattle.refusals.proofs.Order.{fine-iff-holds, then-refused, then-fine-iff}
+use Rattle.refusals.proofs.Promises.{says-refused, says-fine, writes-refused, writes-after}
 use Rattle.fields.proofs.Headers.{legal-iff}
 use Rattle.rules.specs.Matching.{matches}
 use Rattle.trees.specs.declared.search.Reached.the-variants as reached
@@ -21,11 +20,10 @@ use Rattle.trees.specs.declared.search.TreeFirst.the-variants as first
 use Rattle.trees.specs.Words.{startOf, countOf}
 use Rattle.trees.specs.Walk.{walkOf, leafOf, visited}
 use Rattle.trees.specs.Search.{leafVerdict, reachVerdict, leafList, treeList}
-use Rattle.trees.specs.TreeAll.{treeAllVerdict, treeAll, treeAllWords, TreeAllSearched}
-use Rattle.trees.specs.TreeFirst.{treeFirst, TreeFirstSearched}
-use Rattle.trees.specs.Steps.{AtLeaf, Reaches, Comparable, Kept, LeafListed, LeafFirst}
+use Rattle.trees.specs.TreeAll.{treeAllVerdict, TreeAllSearched}
+use Rattle.trees.specs.TreeFirst.{TreeFirstSearched}
+use Rattle.trees.specs.Steps.{AtLeaf, Reaches, Comparable, LeafListed, LeafFirst}
 use Rattle.trees.proofs.Spelling.{part-is-entries}
-use Rattle.trees.proofs.Counting.{counting-refused, counting-fine}
 
 -- ---- the whole search
 
@@ -78,54 +76,23 @@ module _ (rs nodes pool h : List ℕ) where
     pub all-at-leaf :
         {before after : List ℕ} {r : TreeListed} → LeafListed rs h (take (s + k - s) (drop s pool)) n before r after →
         TreeAllSearched rs nodes pool h before r after
-    unfolding treeAll treeAllWords treeAllVerdict
-    all-at-leaf {before} w =
-        record {
-          answers = rw (list, a .seen, part-is-leaf) at (w .answers) ∙ rw room;
-          leaves = rw list at (w .leaves) ∙ rw room;
-        }
-      where
-        room :
-            (reachVerdict rs nodes pool h then roomVerdict (length (treeList rs nodes pool h)) (length before)) ≡
-            roomVerdict (length (treeList rs nodes pool h)) (length before)
-        room = then-fine _ (a .fine)
+    unfolding treeAllVerdict
+    all-at-leaf w = writes-after (a .fine) (rw (list, a .seen, part-is-leaf) at w)
 
     -- what is said of the leaf's entries is what the search for the first match says
     pub first-at-leaf :
         {r : TreeFirst} → LeafFirst rs h (take (s + k - s) (drop s pool)) n r → TreeFirstSearched rs nodes pool h r
-    unfolding treeFirst
-    first-at-leaf w =
-        record { answers = rw (list, a .seen, part-is-leaf) at (w .answers) ∙ sym (counting-fine _ _ _ (a .fine)) }
+    first-at-leaf w = says-fine (a .fine) (rw (list, a .seen, part-is-leaf) at (w .is))
 
   -- a refusal on the way is the answer of the search for all matches, and the words are as found
   pub all-refused :
       {why : Refusal} (before : List ℕ) → Reaches rs nodes pool h (reached.Refused why) →
       TreeAllSearched rs nodes pool h before (listed.Refused why) before
-  unfolding treeAll treeAllWords treeAllVerdict
-  all-refused before (Reaches.refuses e) =
-      let v = then-refused (roomVerdict (length (treeList rs nodes pool h)) (length before)) e in
-      record { answers = sym (counting-refused _ _ _ v); leaves = sym (leaving-refused _ _ v) }
+  unfolding treeAllVerdict
+  all-refused before (Reaches.refuses e) = writes-refused (then-refused _ e) refl refl
 
   -- a refusal on the way is the answer of the search for the first match
   pub first-refused :
       {why : Refusal} → Reaches rs nodes pool h (reached.Refused why) →
       TreeFirstSearched rs nodes pool h (first.Refused why)
-  unfolding treeFirst
-  first-refused (Reaches.refuses e) = record { answers = sym (counting-refused _ _ _ e) }
-
--- ---- the entries of a leaf
-
-module _ (rs h l : List ℕ) (seen : ℕ) where
-  -- too little room is the answer, and the words are as found
-  pub leaf-short :
-      {why : Refusal} (before : List ℕ) → roomVerdict (length (keep (matches rs h) l)) (length before) ≡ Refused why →
-      LeafListed rs h l seen before (listed.Refused why) before
-  leaf-short before v = record { answers = sym (counting-refused _ _ _ v); leaves = sym (leaving-refused _ _ v) }
-
-  -- with room enough the answer is how many match, and they are written
-  pub leaf-listed :
-      {n : ℕ} (before : List ℕ) {after : List ℕ} →
-      roomVerdict (length (keep (matches rs h) l)) (length before) ≡ Fine → Kept rs h l before n after →
-      LeafListed rs h l seen before (listed.Found n seen (length l)) after
-  leaf-listed before v w =
-      record { answers = rw (w .counts) (sym (counting-fine _ _ _ v)); leaves = w .writes ∙ sym (leaving-fine _ _ v) }
+  first-refused (Reaches.refuses e) = says-refused e refl

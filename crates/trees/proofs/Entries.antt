@@ -62,9 +62,9 @@ module _ {rs h all rest : List ℕ} {i : ℕ} (seen : ℕ) (w : Looking (matches
   pub first-is :
       {x : ℕ} {next : List ℕ} → rest ≡ x ∷ next → matches rs h x ≡ true → LeafFirst rs h all seen (Rule x seen (i + 1))
   first-is {x} step t =
-      record { answers = rw (w .kept ∙ keep-in (matches rs h) x step t, looked-found w step t) }
+      record { is = rw (w .kept ∙ keep-in (matches rs h) x step t, looked-found w step t) }
 
   -- where no entry is left none matches, and all were compared
   pub first-none : {n : ℕ} → rest ≡ [] → n ≡ i → LeafFirst rs h all seen (NoRule seen n)
   first-none step e =
-      record { answers = rw (w .kept ∙ keep-none (matches rs h) step, looked-last w step, e) }
+      record { is = rw (w .kept ∙ keep-none (matches rs h) step, looked-last w step, e) }

@@ -8,6 +8,5 @@ pub mod Walking
 pub mod WalkLoop
 pub mod Entries
 pub mod Reaching
-pub mod Counting
 pub mod Answers
 pub mod Unique

@@ -47,48 +47,48 @@ module _ (nodes : List ℕ) (i : ℕ) where
     pub child : w ≡ childOf nodes i
 
   -- what is known of node i by what stands there
-  data Told : Node → Type 0 where
-    missing : nodeCount nodes ≤ i → Told Missing
-    leaf : {s k : ℕ} → IsLeaf s k → Told (Leaf s k)
-    cut : {f v w : ℕ} → IsCut f v w → Told (Cut f v w)
+  data NodeMeans : Node → Type 0 where
+    missing : nodeCount nodes ≤ i → NodeMeans Missing
+    leaf : {s k : ℕ} → IsLeaf s k → NodeMeans (Leaf s k)
+    cut : {f v w : ℕ} → IsCut f v w → NodeMeans (Cut f v w)
 
   -- the words of a node that is there tell a leaf from a cut
-  there-told : i < nodeCount nodes → Told (nodeAt nodes i)
-  there-told l = go (within-or-over leafMark (fieldOf nodes i))
+  there-means : i < nodeCount nodes → NodeMeans (nodeAt nodes i)
+  there-means l = go (within-or-over leafMark (fieldOf nodes i))
     where
-      go : WithinOrOver leafMark (fieldOf nodes i) → Told (nodeAt nodes i)
+      go : WithinOrOver leafMark (fieldOf nodes i) → NodeMeans (nodeAt nodes i)
       go (atMost m) =
-          subst Told (node-leaf l m refl refl)
-          (Told.leaf (record { there = l; mark = m; start = refl; count = refl }))
+          subst NodeMeans (node-leaf l m refl refl)
+          (NodeMeans.leaf (record { there = l; mark = m; start = refl; count = refl }))
       go (over m) =
-          subst Told (node-cut l m refl refl refl)
-          (Told.cut (record { there = l; below-mark = m; field = refl; value = refl; child = refl }))
+          subst NodeMeans (node-cut l m refl refl refl)
+          (NodeMeans.cut (record { there = l; below-mark = m; field = refl; value = refl; child = refl }))
 
   -- the words tell what stands there
-  told : Told (nodeAt nodes i)
-  told = go (within-or-over (nodeCount nodes) i)
+  means : NodeMeans (nodeAt nodes i)
+  means = go (within-or-over (nodeCount nodes) i)
     where
-      go : WithinOrOver (nodeCount nodes) i → Told (nodeAt nodes i)
-      go (atMost l) = subst Told (node-missing l) (Told.missing l)
-      go (over l) = there-told l
+      go : WithinOrOver (nodeCount nodes) i → NodeMeans (nodeAt nodes i)
+      go (atMost l) = subst NodeMeans (node-missing l) (NodeMeans.missing l)
+      go (over l) = there-means l
 
   -- where none is there, the number is past the last node
   pub missing-means : nodeAt nodes i ≡ Missing → nodeCount nodes ≤ i
-  missing-means e = go (subst Told e told)
+  missing-means e = go (subst NodeMeans e means)
     where
-      go : Told Missing → nodeCount nodes ≤ i
-      go (Told.missing l) = l
+      go : NodeMeans Missing → nodeCount nodes ≤ i
+      go (NodeMeans.missing l) = l
 
   -- a leaf is there, and these are its words
   pub leaf-is : {s k : ℕ} → nodeAt nodes i ≡ Leaf s k → IsLeaf s k
-  leaf-is {s} {k} e = go (subst Told e told)
+  leaf-is {s} {k} e = go (subst NodeMeans e means)
     where
-      go : Told (Leaf s k) → IsLeaf s k
-      go (Told.leaf m) = m
+      go : NodeMeans (Leaf s k) → IsLeaf s k
+      go (NodeMeans.leaf m) = m
 
   -- a cut is there, and these are its words
   pub cut-is : {f v w : ℕ} → nodeAt nodes i ≡ Cut f v w → IsCut f v w
-  cut-is {f} {v} {w} e = go (subst Told e told)
+  cut-is {f} {v} {w} e = go (subst NodeMeans e means)
     where
-      go : Told (Cut f v w) → IsCut f v w
-      go (Told.cut m) = m
+      go : NodeMeans (Cut f v w) → IsCut f v w
+      go (NodeMeans.cut m) = m

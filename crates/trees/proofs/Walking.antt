@@ -84,50 +84,50 @@ module _ (nodes h : List ℕ) (i : ℕ) where
     pub side : j ≡ sideOf nodes h i
 
   -- what is known of node i by its step
-  data Told : Step → Type 0 where
-    wrong : Told Wrong
-    leaf : i < nodeCount nodes → fieldOf nodes i ≡ leafMark → Told Leaf
-    next : {j : ℕ} → GoesOn j → Told (Next j)
+  data StepMeans : Step → Type 0 where
+    wrong : StepMeans Wrong
+    leaf : i < nodeCount nodes → fieldOf nodes i ≡ leafMark → StepMeans Leaf
+    next : {j : ℕ} → GoesOn j → StepMeans (Next j)
 
   -- the right child of a cut that is there tells whether the walk goes on
-  cut-told : i < nodeCount nodes → fieldOf nodes i < leafMark → Told (stepOf nodes h i)
-  cut-told l u = go (within-or-over (childOf nodes i) i)
+  cut-means : i < nodeCount nodes → fieldOf nodes i < leafMark → StepMeans (stepOf nodes h i)
+  cut-means l u = go (within-or-over (childOf nodes i) i)
     where
-      go : WithinOrOver (childOf nodes i) i → Told (stepOf nodes h i)
-      go (atMost m) = subst Told (step-back l u m) Told.wrong
+      go : WithinOrOver (childOf nodes i) i → StepMeans (stepOf nodes h i)
+      go (atMost m) = subst StepMeans (step-back l u m) StepMeans.wrong
       go (over m) =
-          subst Told (step-on l u m refl) (Told.next (record { there = l; cut = u; above = m; side = refl }))
+          subst StepMeans (step-on l u m refl) (StepMeans.next (record { there = l; cut = u; above = m; side = refl }))
 
   -- the first word of a node that is there tells a cut, a leaf and what is wrong
-  there-told : i < nodeCount nodes → Told (stepOf nodes h i)
-  there-told l = go (order (fieldOf nodes i) leafMark)
+  there-means : i < nodeCount nodes → StepMeans (stepOf nodes h i)
+  there-means l = go (order (fieldOf nodes i) leafMark)
     where
-      go : Order (fieldOf nodes i) leafMark → Told (stepOf nodes h i)
-      go (below m) = cut-told l m
-      go (same m) = subst Told (step-leaf l m) (Told.leaf l m)
-      go (above m) = subst Told (step-over l m) Told.wrong
+      go : Order (fieldOf nodes i) leafMark → StepMeans (stepOf nodes h i)
+      go (below m) = cut-means l m
+      go (same m) = subst StepMeans (step-leaf l m) (StepMeans.leaf l m)
+      go (above m) = subst StepMeans (step-over l m) StepMeans.wrong
 
   -- each step tells what its node is
-  told : Told (stepOf nodes h i)
-  told = go (within-or-over (nodeCount nodes) i)
+  means : StepMeans (stepOf nodes h i)
+  means = go (within-or-over (nodeCount nodes) i)
     where
-      go : WithinOrOver (nodeCount nodes) i → Told (stepOf nodes h i)
-      go (atMost l) = subst Told (step-missing l) Told.wrong
-      go (over l) = there-told l
+      go : WithinOrOver (nodeCount nodes) i → StepMeans (stepOf nodes h i)
+      go (atMost l) = subst StepMeans (step-missing l) StepMeans.wrong
+      go (over l) = there-means l
 
   -- a leaf is there, and has the mark
   pub leaf-means : stepOf nodes h i ≡ Leaf → (i < nodeCount nodes) × (fieldOf nodes i ≡ leafMark)
-  leaf-means e = go (subst Told e told)
+  leaf-means e = go (subst StepMeans e means)
     where
-      go : Told Leaf → (i < nodeCount nodes) × (fieldOf nodes i ≡ leafMark)
-      go (Told.leaf l m) = (l, m)
+      go : StepMeans Leaf → (i < nodeCount nodes) × (fieldOf nodes i ≡ leafMark)
+      go (StepMeans.leaf l m) = (l, m)
 
   -- where the walk goes on to node j there is a cut that it goes on from
   pub next-means : {j : ℕ} → stepOf nodes h i ≡ Next j → GoesOn j
-  next-means {j} e = go (subst Told e told)
+  next-means {j} e = go (subst StepMeans e means)
     where
-      go : Told (Next j) → GoesOn j
-      go (Told.next g) = g
+      go : StepMeans (Next j) → GoesOn j
+      go (StepMeans.next g) = g
 
   -- where the right child is above the cut, so is the header's side
   pub side-above : i < childOf nodes i → i < sideOf nodes h i

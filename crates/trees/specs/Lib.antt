@@ -4,7 +4,6 @@ pub mod Node
 pub mod Spelt
 pub mod Walk
 pub mod Search
-pub mod Counted
 pub mod TreeAll
 pub mod TreeFirst
 pub mod Steps

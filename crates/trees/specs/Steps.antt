@@ -4,18 +4,19 @@
 --   AtLeaf, Reaches          what is refused on the way to the leaf, or the leaf's words and the nodes visited
 --   LeafJudged               the same at a leaf that the walk has come to
 --   Comparable rs h l        the header has its words, and each entry of l names a rule
---   Kept, LeafListed         what is written of the entries l, and what the search for all matches then says and leaves
+--   LeafListed               the entries of l that match are listed, if there is room for them
 --   LeafFirst                what the search for the first match says of the entries l
 use Prim.Native.Nat.{ℕ, _+_, _<_, _^_}
 use mathlib.Core.Bool.{true}
 use mathlib.Core.Path.{_≡_}
 use mathlib.Core.List.{List, [], _∷_}
 use lib.ListN.{length}
-use Rattle.facts.specs.Lists.{keep, written, allUnder}
+use Rattle.facts.specs.Lists.{keep, allUnder}
 use Rattle.refusals.specs.declared.Refusal.{Refusal}
 use Rattle.refusals.specs.declared.Verdict.the-variants as verdict
 use Rattle.refusals.specs.Paper.{success}
-use Rattle.refusals.specs.Order.{roomVerdict, leaving}
+use Rattle.refusals.specs.Order.{roomVerdict}
+use Rattle.refusals.specs.Promises.{Writes}
 use Rattle.fields.specs.Words.{fieldCount}
 use Rattle.rules.specs.Words.{ruleCount}
 use Rattle.rules.specs.Matching.{matches}
@@ -29,7 +30,6 @@ use Rattle.trees.specs.declared.search.TreeFirst.{TreeFirst}
 use Rattle.trees.specs.Words.{nodeWord, startOf, countOf}
 use Rattle.trees.specs.Walk.{Walk, lost, came, walkOf, leafOf, visited}
 use Rattle.trees.specs.Search.{leafVerdict, reachVerdict, lookedAt}
-use Rattle.trees.specs.Counted.{counted, counting}
 use Rattle.trees.specs.TreeAll as all
 use Rattle.trees.specs.TreeFirst as first
 
@@ -64,21 +64,11 @@ pub record Comparable (rs h l : List ℕ) : Type 0 where
   pub five : length h ≡ fieldCount
   pub known : allUnder (ruleCount rs) l ≡ true
 
-pub record Kept (rs h l before : List ℕ) (n : ℕ) (after : List ℕ) : Type 0 where
-  pub counts : n ≡ length (keep (matches rs h) l)
-  pub writes : after ≡ written (keep (matches rs h) l) before
-
-pub record LeafListed (rs h l : List ℕ) (seen : ℕ) (before : List ℕ) (r : TreeListed) (after : List ℕ) : Type 0 where
-  pub answers :
-      all.paper r ≡
-      counting (roomVerdict (length (keep (matches rs h) l)) (length before)) (length (keep (matches rs h) l) ∷ []) seen
-      (length l)
-  pub leaves :
-      after ≡
-      leaving (roomVerdict (length (keep (matches rs h) l)) (length before)) (written (keep (matches rs h) l) before)
-      before
+abbrev pub LeafListed : List ℕ → List ℕ → List ℕ → ℕ → List ℕ → TreeListed → List ℕ → Type 0
+LeafListed rs h l seen before r after =
+    Writes all.paper (roomVerdict (length (keep (matches rs h) l)) (length before))
+    (seen ∷ length l ∷ length (keep (matches rs h) l) ∷ []) (keep (matches rs h) l) before r after
 
 pub record LeafFirst (rs h l : List ℕ) (seen : ℕ) (r : TreeFirst) : Type 0 where
-  pub answers :
-      first.paper r ≡
-      counted (success (firstOf (keep (matches rs h) l))) seen (length (lookedAt (matches rs h) l))
+  pub is :
+      first.paper r ≡ success (seen ∷ length (lookedAt (matches rs h) l) ∷ firstOf (keep (matches rs h) l))

@@ -1,30 +1,28 @@
 -- The tree search for the first match. Definitions only.
---   paper                an answer of the search, on paper: the number of the first match, or no value for none, and
---                        its counts
---   treeFirst            3, 6, 7; else the first entry that matches; it compares entries up to that one
---   TreeFirstSearched    the promise: the answer is as defined
+--   paper                an answer of the search, on paper: the nodes visited and the entries compared, then the number
+--                        of the first match, or no value for none
+--   TreeFirstSearched    the promise: 3, 6, 7; else the first entry that matches; it compares entries up to that one
 use Prim.Native.Nat.{ℕ}
-use mathlib.Core.Path.{_≡_}
 use mathlib.Core.List.{List, [], _∷_}
 use lib.ListN.{length}
-use Rattle.refusals.specs.Paper.{success, onPaper}
+use Rattle.refusals.specs.Paper.{Paper, success, onPaper}
+use Rattle.refusals.specs.Promises.{Says}
 use Rattle.rules.specs.Matching.{matches}
 use Rattle.rules.specs.LineFirst.{firstOf}
 use Rattle.trees.specs.declared.search.TreeFirst.{TreeFirst}
 use Rattle.trees.specs.declared.search.TreeFirst.the-variants.{Refused, Rule, NoRule}
 use Rattle.trees.specs.Walk.{walkOf, visited}
 use Rattle.trees.specs.Search.{reachVerdict, leafList, treeList, lookedAt}
-use Rattle.trees.specs.Counted.{Counted, counted, counting}
 
-abbrev pub paper : TreeFirst → Counted
-paper (Refused why) = counted (onPaper why) 0 0
-paper (Rule number nodes compared) = counted (success (number ∷ [])) nodes compared
-paper (NoRule nodes compared) = counted (success []) nodes compared
+abbrev pub paper : TreeFirst → Paper
+paper (Refused why) = onPaper why
+paper (Rule number nodes compared) = success (nodes ∷ compared ∷ number ∷ [])
+paper (NoRule nodes compared) = success (nodes ∷ compared ∷ [])
 
-unfoldable pub treeFirst : List ℕ → List ℕ → List ℕ → List ℕ → Counted
-treeFirst rs nodes pool h =
-    counting (reachVerdict rs nodes pool h) (firstOf (treeList rs nodes pool h)) (visited (walkOf nodes h))
-    (length (lookedAt (matches rs h) (leafList nodes pool h)))
+abbrev pub firstValues : List ℕ → List ℕ → List ℕ → List ℕ → List ℕ
+firstValues rs nodes pool h =
+    visited (walkOf nodes h) ∷ length (lookedAt (matches rs h) (leafList nodes pool h)) ∷
+    firstOf (treeList rs nodes pool h)
 
-pub record TreeFirstSearched (rs nodes pool h : List ℕ) (r : TreeFirst) : Type 0 where
-  pub answers : paper r ≡ treeFirst rs nodes pool h
+abbrev pub TreeFirstSearched : List ℕ → List ℕ → List ℕ → List ℕ → TreeFirst → Type 0
+TreeFirstSearched rs nodes pool h r = Says paper (reachVerdict rs nodes pool h) (firstValues rs nodes pool h) r

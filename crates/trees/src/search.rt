@@ -5,22 +5,20 @@ use crate::walk::walk_to;
 use crate::words::COUNT;
 use crate::words::START;
 use crate::words::node_word;
-use crate::words::wide;
 use fields::header::header_verdict;
+use lent::store;
+use lent::wide;
 use refusals::Refusal;
 use refusals::Verdict;
 use rules::matching::rule_matches;
 use rules::words::RULE_WORDS;
-ghost use Prim.Native.Nat.{_<_, _≤_};
-ghost use mathlib.Core.Path.{_≡_};
-ghost use lib.ListN.{length};
-ghost use Rattle.facts.specs.Lists.{keep};
-ghost use Rattle.refusals.specs.Order.{roomVerdict};
+ghost use Prim.Native.Nat.{_<_};
+ghost use Rattle.facts.specs.Lists.{Kept};
 ghost use Rattle.rules.specs.Matching.{matches};
 ghost use Rattle.trees.specs.Words.{nodeCount};
 ghost use Rattle.trees.specs.TreeAll.{TreeAllSearched};
 ghost use Rattle.trees.specs.TreeFirst.{TreeFirstSearched};
-ghost use Rattle.trees.specs.Steps.{Reaches, LeafJudged, Comparable, Kept, LeafListed, LeafFirst};
+ghost use Rattle.trees.specs.Steps.{Reaches, LeafJudged, Comparable, LeafListed, LeafFirst};
 
 pub enum TreeListed {
     Refused(Refusal),
@@ -74,7 +72,7 @@ pub fn tree_all(
             visited,
         } => {
             let end = start + count;
-            all_of(rules, header, &pool[start..end], visited, out)
+            list_entries(rules, header, &pool[start..end], visited, out)
         }
     }
 }
@@ -92,7 +90,7 @@ pub fn tree_first(rules: &[u32], nodes: &[u32], pool: &[u32], header: &[u32]) ->
             visited,
         } => {
             let end = start + count;
-            first_of(rules, header, &pool[start..end], visited)
+            first_entry(rules, header, &pool[start..end], visited)
         }
     }
 }
@@ -131,8 +129,9 @@ fn at_leaf(rules: &[u32], nodes: &[u32], pool: &[u32], leaf: usize, visited: usi
     }
 }
 
-// The entries that match, written if there is room for them.
-fn all_of(
+// The entries that match, if there is room for them all. Where the room holds the whole leaf, nothing need be counted
+// first.
+fn list_entries(
     rules: &[u32],
     header: &[u32],
     leaf: &[u32],
@@ -143,60 +142,36 @@ fn all_of(
     ensures { λ r. ⌜ LeafListed (now (rules .entry)) (now (header .entry)) (now (leaf .entry)) visited
         (now (out .entry)) r (now (out .exit)) ⌝ }
 {
-    match room_verdict(rules, header, leaf, out.len()) {
-        Verdict::Refused(why) => TreeListed::Refused(why),
-        Verdict::Fine => TreeListed::Found {
-            count: write_entries(rules, header, leaf, out),
+    let compared = leaf.len();
+    if compared <= out.len() {
+        return TreeListed::Found {
+            count: store_entries(rules, header, leaf, out),
             visited,
-            compared: leaf.len(),
-        },
+            compared,
+        };
+    }
+    let needed = store_entries(rules, header, leaf, &mut out[..0]);
+    if out.len() < needed {
+        return TreeListed::Refused(Refusal::OutputShort { needed, output: 0 });
+    }
+    TreeListed::Found {
+        count: store_entries(rules, header, leaf, out),
+        visited,
+        compared,
     }
 }
 
-// Whether the room holds every match. Where it holds the whole leaf, nothing need be counted.
-fn room_verdict(rules: &[u32], header: &[u32], leaf: &[u32], room: usize) -> Verdict
+// Stores the entries that match as far as there is room, and says how many match.
+fn store_entries(rules: &[u32], header: &[u32], leaf: &[u32], out: &mut [u32]) -> usize
     requires { ⌜ Comparable (now rules) (now header) (now leaf) ⌝ }
-    ensures { λ r. ⌜ r ≡ roomVerdict (length (keep (matches (now (rules .entry)) (now (header .entry)))
-        (now (leaf .entry)))) room ⌝ }
-{
-    if leaf.len() <= room {
-        return Verdict::Fine;
-    }
-    let needed = count_entries(rules, header, leaf);
-    if room < needed {
-        return Verdict::Refused(Refusal::OutputShort { needed, output: 0 });
-    }
-    Verdict::Fine
-}
-
-// How many entries match.
-fn count_entries(rules: &[u32], header: &[u32], leaf: &[u32]) -> usize
-    requires { ⌜ Comparable (now rules) (now header) (now leaf) ⌝ }
-    ensures { λ n. ⌜ n ≡ length (keep (matches (now (rules .entry)) (now (header .entry))) (now (leaf .entry))) ⌝ }
-{
-    let mut n = 0;
-    let mut i = 0;
-    while i < leaf.len() {
-        if rule_matches(rules, header, wide(leaf[i])) {
-            n += 1;
-        }
-        i += 1;
-    }
-    n
-}
-
-// Writes the entries that match, and says how many.
-fn write_entries(rules: &[u32], header: &[u32], leaf: &[u32], out: &mut [u32]) -> usize
-    requires { ⌜ Comparable (now rules) (now header) (now leaf) ⌝ }
-    requires { ⌜ length (keep (matches (now rules) (now header)) (now leaf)) ≤ length (now out) ⌝ }
-    ensures { λ n. ⌜ Kept (now (rules .entry)) (now (header .entry)) (now (leaf .entry)) (now (out .entry)) n
+    ensures { λ n. ⌜ Kept (matches (now (rules .entry)) (now (header .entry))) (now (leaf .entry)) (now (out .entry)) n
         (now (out .exit)) ⌝ }
 {
     let mut n = 0;
     let mut i = 0;
     while i < leaf.len() {
         if rule_matches(rules, header, wide(leaf[i])) {
-            out[n] = leaf[i];
+            store(out, n, leaf[i]);
             n += 1;
         }
         i += 1;
@@ -205,7 +180,7 @@ fn write_entries(rules: &[u32], header: &[u32], leaf: &[u32], out: &mut [u32]) -
 }
 
 // The first entry that matches, and how many entries were compared.
-fn first_of(rules: &[u32], header: &[u32], leaf: &[u32], visited: usize) -> TreeFirst
+fn first_entry(rules: &[u32], header: &[u32], leaf: &[u32], visited: usize) -> TreeFirst
     requires { ⌜ Comparable (now rules) (now header) (now leaf) ⌝ }
     ensures { λ r. ⌜ LeafFirst (now (rules .entry)) (now (header .entry)) (now (leaf .entry)) visited r ⌝ }
 {

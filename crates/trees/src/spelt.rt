@@ -8,7 +8,7 @@ use crate::words::MOST_POOL;
 use crate::words::NODE_WORDS;
 use crate::words::START;
 use crate::words::node_word;
-use crate::words::wide;
+use lent::wide;
 use refusals::Refusal;
 use refusals::Verdict;
 ghost use Prim.Native.Nat.{_<_};

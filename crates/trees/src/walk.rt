@@ -5,7 +5,7 @@ use crate::words::LEAF_MARK;
 use crate::words::NODE_WORDS;
 use crate::words::VALUE;
 use crate::words::node_word;
-use crate::words::wide;
+use lent::wide;
 ghost use Prim.Native.Nat.{_<_, _^_};
 ghost use mathlib.Core.Path.{_≡_};
 ghost use lib.ListN.{length};

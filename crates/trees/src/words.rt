@@ -1,5 +1,6 @@
 // The words of a tree.
 use fields::header::FIELDS;
+use lent::wide;
 ghost use Prim.Native.Nat.{_<_};
 ghost use mathlib.Core.Path.{_≡_};
 ghost use Rattle.trees.specs.Words.{nodeWords, nodeCount, valueOf};
@@ -77,11 +78,4 @@ pub(crate) fn node_word(nodes: &[u32], i: usize, j: usize) -> usize
     ensures { λ w. ⌜ WordRead (now (nodes .entry)) i j w ⌝ }
 {
     wide(nodes[i * NODE_WORDS + j])
-}
-
-// A word of 32 bits as a place or a count.
-pub(crate) fn wide(word: u32) -> usize
-    ensures { λ r. ⌜ r ≡ word ⌝ }
-{
-    word as usize
 }

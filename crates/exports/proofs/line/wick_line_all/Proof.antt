@@ -1,7 +1,6 @@
 -- `exports::line::wick_line_all` meets its contract: what the line search answers, as eight words, and what it leaves.
 -- Assumes nothing.
 use borrow.Author.Needs.{needs}
-use Rattle.exports.proofs.Answers.{answered-left}
 use Rattle.exports.proofs.line.wick_line_all.Statement.{statement}
 use Rattle.exports.proofs.line.wick_line_all.Tie as tie
 
@@ -16,8 +15,7 @@ same-length c = search needs
 
 returns : tie.Need-returns
 returns c =
-    let said = c .before .before .before .line-all .ensures in
-    answered-left (λ p. p) (c .of-listed .ensures) (said .answers) (said .leaves)
+    record { said = _; promised = c .before .before .before .line-all .ensures; answers = c .of-listed .ensures }
 
 pub wick-line-all-spec : {M : Type 1} → statement M
 wick-line-all-spec = tie.close (tie.spec line-all-requires of-listed-requires same-length returns)

@@ -1,7 +1,6 @@
 -- `exports::rule_text::wick_rules_read` meets its contract: what the reader answers, as eight words, and what it
 -- leaves. Assumes nothing.
 use borrow.Author.Needs.{needs}
-use Rattle.exports.proofs.Answers.{answered-left}
 use Rattle.exports.proofs.rule_text.wick_rules_read.Statement.{statement}
 use Rattle.exports.proofs.rule_text.wick_rules_read.Tie as tie
 
@@ -16,8 +15,7 @@ same-length c = search needs
 
 returns : tie.Need-returns
 returns c =
-    let said = c .before .before .before .rules-read .ensures in
-    answered-left (λ p. p) (c .of-read .ensures) (said .answers) (said .leaves)
+    record { said = _; promised = c .before .before .before .rules-read .ensures; answers = c .of-read .ensures }
 
 pub wick-rules-read-spec : {M : Type 1} → statement M
 wick-rules-read-spec =

@@ -1,7 +1,6 @@
 -- `exports::tree_text::wick_tree_read` meets its contract: what the reader answers, as eight words, and what it
 -- leaves. Assumes nothing.
 use borrow.Author.Needs.{needs}
-use Rattle.exports.proofs.Answers.{answered-both}
 use Rattle.exports.proofs.tree_text.wick_tree_read.Statement.{statement}
 use Rattle.exports.proofs.tree_text.wick_tree_read.Tie as tie
 
@@ -19,8 +18,7 @@ same-length-2 c = search needs
 
 returns : tie.Need-returns
 returns c =
-    let said = c .before .before .before .before .before .tree-read .ensures in
-    answered-both (λ p. p) (c .of-read .ensures) (said .answers) (said .leaves-nodes) (said .leaves-pool)
+    record { said = _; promised = c .before .before .before .before .before .tree-read .ensures; answers = c .of-read .ensures }
 
 pub wick-tree-read-spec : {M : Type 1} → statement M
 wick-tree-read-spec =

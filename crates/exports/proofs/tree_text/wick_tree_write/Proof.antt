@@ -1,7 +1,6 @@
 -- `exports::tree_text::wick_tree_write` meets its contract: what the writer answers, as eight words, and what it
 -- leaves. Assumes nothing.
 use borrow.Author.Needs.{needs}
-use Rattle.exports.proofs.Answers.{answered-left}
 use Rattle.exports.proofs.tree_text.wick_tree_write.Statement.{statement}
 use Rattle.exports.proofs.tree_text.wick_tree_write.Tie as tie
 
@@ -16,8 +15,7 @@ same-length c = search needs
 
 returns : tie.Need-returns
 returns c =
-    let said = c .before .before .before .tree-write .ensures in
-    answered-left (λ p. p) (c .of-written .ensures) (said .answers) (said .leaves)
+    record { said = _; promised = c .before .before .before .tree-write .ensures; answers = c .of-written .ensures }
 
 pub wick-tree-write-spec : {M : Type 1} → statement M
 wick-tree-write-spec =

@@ -23,12 +23,12 @@ by-tree-requires c κs = search needs
 returns : tie.Need-returns
 returns c =
     let w = c .before .before .before .before in
-    c .by-list .ensures ∙ check-refused (w .tree-check .ensures) (c .before .before .why .given .1)
+    c .by-list .ensures ∙ check-refused _ _ _ (w .tree-check .ensures) (c .before .before .why .given .1)
 
 returns-2 : tie.Need-returns-2
 returns-2 c =
     let w = c .before .before .before in
-    c .by-tree .ensures ∙ check-accepted (w .tree-check .ensures) (c .before .enum-told .given .1)
+    c .by-tree .ensures ∙ check-accepted _ _ _ (w .tree-check .ensures) (c .before .enum-told .given .1)
 
 pub checked-spec : {M : Type 1} → statement M
 checked-spec =

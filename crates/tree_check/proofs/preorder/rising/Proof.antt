@@ -33,10 +33,12 @@ returns c =
     let h = c .before .before .before .before in
     sym
     (climbing-falls (h .loop .inv .1) (drop-step _ _ (c .before .before .before .loop-test .taken))
-    (rw (c .before .wide .ensures .0) at (c .if1 .taken)))
+    (rw (c .before .wide .ensures) at (c .if1 .taken)))
 
 after-requires : tie.Need-after-requires Inv-loop μ-loop
-after-requires c κs = c .before .wide .ensures .1
+after-requires c κs =
+    let h = c .before .before .before .before in
+    omega (arith, c .before .wide .ensures, h .before .shared-slice-known .given (h .loop .i))
 
 add-i : tie.Need-add-i Inv-loop μ-loop
 add-i c = omega arith
@@ -48,9 +50,9 @@ loop-again : tie.Need-loop-again Inv-loop μ-loop
 loop-again c =
     let h = c .before .before .before .before .before in (
       omega arith,
-      rw (c .after .ensures, c .before .before .wide .ensures .0)
+      rw (c .after .ensures, c .before .before .wide .ensures)
           (climbing-step (h .loop .inv .1) (drop-step _ _ (c .before .before .before .before .loop-test .taken))
-          (rw (c .before .before .wide .ensures .0) at (c .before .if1 .left))),
+          (rw (c .before .before .wide .ensures) at (c .before .if1 .left))),
     )
 
 returns-2 : tie.Need-returns-2 Inv-loop μ-loop

@@ -31,20 +31,20 @@ enum-known-start c = search needs
 add-end : tie.Need-add-end
 add-end c = omega (arith, part-within _ _ _ _ (here c))
 
-mul-all-of : tie.Need-mul-all-of
-mul-all-of c = omega (arith, part-within _ _ _ _ (here c))
+mul-list-entries : tie.Need-mul-list-entries
+mul-list-entries c = omega (arith, part-within _ _ _ _ (here c))
 
-sub-all-of : tie.Need-sub-all-of
-sub-all-of c = omega arith
+sub-list-entries : tie.Need-sub-list-entries
+sub-list-entries c = omega arith
 
-part-all-of-start : tie.Need-part-all-of-start
-part-all-of-start c = omega arith
+part-list-entries-start : tie.Need-part-list-entries-start
+part-list-entries-start c = omega arith
 
-part-all-of-end : tie.Need-part-all-of-end
-part-all-of-end c = part-within _ _ _ _ (here c)
+part-list-entries-end : tie.Need-part-list-entries-end
+part-list-entries-end c = part-within _ _ _ _ (here c)
 
-all-of-requires : tie.Need-all-of-requires
-all-of-requires c κs = part-comparable _ _ _ _ (here (c .before .before))
+list-entries-requires : tie.Need-list-entries-requires
+list-entries-requires c κs = part-comparable _ _ _ _ (here (c .before .before))
 
 returns : tie.Need-returns
 returns c =
@@ -57,7 +57,7 @@ same-length c = search needs
 returns-2 : tie.Need-returns-2
 returns-2 c =
     let w = c .before .before in
-    all-at-leaf _ _ _ _ (here (w .before .before .before)) (w .all-of .ensures)
+    all-at-leaf _ _ _ _ (here (w .before .before .before)) (w .list-entries .ensures)
 
 pub tree-all-spec : {M : Type 1} → statement M
 tree-all-spec =
@@ -67,11 +67,11 @@ tree-all-spec =
     enum-known-why
     enum-known-start
     add-end
-    mul-all-of
-    sub-all-of
-    part-all-of-start
-    part-all-of-end
-    all-of-requires
+    mul-list-entries
+    sub-list-entries
+    part-list-entries-start
+    part-list-entries-end
+    list-entries-requires
     returns
     same-length
     returns-2)

@@ -31,20 +31,20 @@ enum-known-start c = search needs
 add-end : tie.Need-add-end
 add-end c = omega (arith, part-within _ _ _ _ (here c))
 
-mul-first-of : tie.Need-mul-first-of
-mul-first-of c = omega (arith, part-within _ _ _ _ (here c))
+mul-first-entry : tie.Need-mul-first-entry
+mul-first-entry c = omega (arith, part-within _ _ _ _ (here c))
 
-sub-first-of : tie.Need-sub-first-of
-sub-first-of c = omega arith
+sub-first-entry : tie.Need-sub-first-entry
+sub-first-entry c = omega arith
 
-part-first-of-start : tie.Need-part-first-of-start
-part-first-of-start c = omega arith
+part-first-entry-start : tie.Need-part-first-entry-start
+part-first-entry-start c = omega arith
 
-part-first-of-end : tie.Need-part-first-of-end
-part-first-of-end c = part-within _ _ _ _ (here c)
+part-first-entry-end : tie.Need-part-first-entry-end
+part-first-entry-end c = part-within _ _ _ _ (here c)
 
-first-of-requires : tie.Need-first-of-requires
-first-of-requires c κs = part-comparable _ _ _ _ (here (c .before))
+first-entry-requires : tie.Need-first-entry-requires
+first-entry-requires c κs = part-comparable _ _ _ _ (here (c .before))
 
 returns : tie.Need-returns
 returns c =
@@ -52,7 +52,7 @@ returns c =
     (subst (Reaches _ _ _ _) (c .before .why .given .1) (c .before .before .before .reach .ensures))
 
 returns-2 : tie.Need-returns-2
-returns-2 c = first-at-leaf _ _ _ _ (here (c .before .before)) (c .first-of .ensures)
+returns-2 c = first-at-leaf _ _ _ _ (here (c .before .before)) (c .first-entry .ensures)
 
 pub tree-first-spec : {M : Type 1} → statement M
 tree-first-spec =
@@ -62,10 +62,10 @@ tree-first-spec =
     enum-known-why
     enum-known-start
     add-end
-    mul-first-of
-    sub-first-of
-    part-first-of-start
-    part-first-of-end
-    first-of-requires
+    mul-first-entry
+    sub-first-entry
+    part-first-entry-start
+    part-first-entry-end
+    first-entry-requires
     returns
     returns-2)

@@ -1,4 +1,4 @@
--- `trees::search::first_of` meets its contract. The invariant: no entry before this one matches. Assumes nothing.
+-- `trees::search::first_entry` meets its contract. The invariant: no entry before this one matches. Assumes nothing.
 use Prim.Native.Nat.{_≤_, _-_}
 use native.Mathlib.Omega.{arith}
 use mathlib.Core.Path.{_≡_, _∙_}
@@ -7,8 +7,8 @@ use borrow.Author.Needs.{needs}
 use Rattle.facts.proofs.Steps.{drop-step, drop-end}
 use Rattle.rules.specs.Matching.{matches}
 use Rattle.trees.proofs.Entries.{compared, Looking, looking-first, looking-step, first-is, first-none}
-use Rattle.trees.proofs.search.first_of.Statement.{statement}
-use Rattle.trees.proofs.search.first_of.Tie as tie
+use Rattle.trees.proofs.search.first_entry.Statement.{statement}
+use Rattle.trees.proofs.search.first_entry.Tie as tie
 
 abbrev Inv-loop : tie.InvT-loop
 Inv-loop rules header leaf visited i₀ i = (i ≤ length leaf) × Looking (matches rules header) leaf (drop i leaf) i
@@ -66,8 +66,8 @@ loop-again c =
 returns-2 : tie.Need-returns-2 Inv-loop μ-loop
 returns-2 c = first-none _ (c .before .loop .inv .1) (drop-end _ _ (c .loop-test .left)) (omega arith)
 
-pub first-of-spec : {M : Type 1} → statement M
-first-of-spec =
+pub first-entry-spec : {M : Type 1} → statement M
+first-entry-spec =
     tie.close
     (tie.spec
     Inv-loop

@@ -13,7 +13,7 @@ use Rattle.trees.specs as trees
 use Rattle.tree_check.specs as tree-check
 use Rattle.rule_file.specs as rule-file
 use Rattle.tree_file.specs as tree-file
-use Rattle.console.specs as console
+use Rattle.text.specs as text
 use Rattle.policy.specs as policy
 use Rattle.policy.specs.declared.tree.Taken.{Taken}
 use Rattle.rules.proofs as in-rules
@@ -53,26 +53,26 @@ pub record Calls : Type 0 where
   pub tree-first : (rs ns es h : List ℕ) → Fixes (trees.TreeFirst.TreeFirstSearched rs ns es h)
   pub tree-check : (rs ns es : List ℕ) → Fixes (tree-check.TreeCheck.TreeChecked rs ns es)
   pub rules-write :
-      (rs w : List ℕ) → WritesOnly w (rule-file.WriteRules.RulesWritten rs w) rule-file.WriteRules.paper (value 0)
+      (rs w : List ℕ) → WritesOnly w (rule-file.Writing.RulesWritten rs w) text.Said.paper (value 0)
   pub rules-read :
       (s w : List ℕ) →
-      WritesOnly w (rule-file.ReadRules.RulesRead s w) rule-file.ReadRules.paper (λ vs. value 0 vs * rules.Words.ruleWords)
+      WritesOnly w (rule-file.Reading.RulesRead s w) rule-file.Reading.paper (λ vs. value 0 vs * rules.Words.ruleWords)
   pub tree-write :
       (k : ℕ) (ns es w : List ℕ) →
-      WritesOnly w (tree-file.WriteTree.TreeWritten k ns es w) tree-file.WriteTree.paper (value 0)
+      WritesOnly w (tree-file.Writing.TreeWritten k ns es w) text.Said.paper (value 0)
   pub tree-read :
       (s ns es : List ℕ) →
       Fixes
       (λ (x : tree-file.declared.read.Read.Read × List ℕ × List ℕ).
-      tree-file.ReadTree.TreeRead s ns es (x .0) (x .1) (x .2))
+      tree-file.Reading.TreeRead s ns es (x .0) (x .1) (x .2))
   pub tree-read-nodes :
       (s w es after : List ℕ) →
-      WritesOnly w (λ r v. tree-file.ReadTree.TreeRead s w es r v after) tree-file.ReadTree.paper
+      WritesOnly w (λ r v. tree-file.Reading.TreeRead s w es r v after) tree-file.Reading.paper
       (λ vs. value 1 vs * trees.Words.nodeWords)
   pub tree-read-pool :
       (s ns w after : List ℕ) →
-      WritesOnly w (λ r v. tree-file.ReadTree.TreeRead s ns w r after v) tree-file.ReadTree.paper (value 2)
-  pub reply : (bytes w : List ℕ) → WritesOnly w (console.Lines.Said bytes w) console.Lines.paper (value 0)
+      WritesOnly w (λ r v. tree-file.Reading.TreeRead s ns w r after v) tree-file.Reading.paper (value 2)
+  pub reply : (bytes w : List ℕ) → WritesOnly w (text.Said.Said bytes w) text.Said.paper (value 0)
   pub take-list :
       (f : Option (List ℕ)) (w : List ℕ) → WritesOnly w (policy.TakeList.ListTaken f w) policy.TakeList.paper (value 0)
   pub take-tree :

@@ -18,10 +18,10 @@ use Rattle.refusals.specs.declared.Verdict.the-variants as verdict
 use Rattle.refusals.specs.Order.{roomVerdict}
 use Rattle.refusals.proofs.Order.{refused-not-fine, room-fine-iff, leaving-fine, leaving-refused}
 use Rattle.refusals.proofs.Giving.{success-giving, refusal-giving}
+use Rattle.text.specs.declared.put.Written.{Written}
+use Rattle.text.specs.declared.put.Written.the-variants.{Refused, Bytes}
+use Rattle.text.specs.Said.{paper, Said}
 use Rattle.console.specs.declared.gather.Gathering.{Gathering}
-use Rattle.console.specs.declared.say.Replied.{Replied}
-use Rattle.console.specs.declared.say.Replied.the-variants.{Refused, Written}
-use Rattle.console.specs.Lines.{paper, Said}
 use Rattle.console.specs.Gathered.{step, after, said, answers}
 use Rattle.console.specs.Feeding.{takenOf, IsFed}
 use Rattle.console.proofs.Pieces.{after-more, answers-more}
@@ -74,7 +74,7 @@ module _ (answer : List ℕ → List ℕ) (g₀ : Gathering) (bs before : List �
         record { taken = all; state = q .state; filled = sym (q .filled); bytes = q .bytes }
 
     module _
-        (h : i < length bs) {r : Replied} {part : List ℕ}
+        (h : i < length bs) {r : Written} {part : List ℕ}
         (s : Said (said answer g (getD bs i 0)) (restOf at now) r part) where
       abbrev here : List ℕ
       here = said answer g (getD bs i 0)
@@ -120,7 +120,7 @@ module _ (answer : List ℕ → List ℕ) (g₀ : Gathering) (bs before : List �
               bytes = put part ∙ ap (λ (p : List ℕ). upTo i ++ p) found;
             }
 
-      module _ {n : ℕ} (e : r ≡ Written n) where
+      module _ {n : ℕ} (e : r ≡ Bytes n) where
         writes : (verdictHere ≡ verdict.Fine) × (n ∷ [] ≡ length here ∷ [])
         writes = success-giving verdictHere (length here ∷ []) (ap paper (sym e) ∙ s .answers)
 

@@ -2,14 +2,14 @@
 use crate::gather::Gathering;
 use crate::head::MOST_BYTES;
 use crate::reply::reply;
-use crate::say::Replied;
 use crate::say::refused_line;
 use refusals::Refusal;
 use text::cursor::wrong;
+use text::put::Written;
 use text::words::NEWLINE;
 ghost use Prim.Native.Nat.{_≤_};
 ghost use lib.ListN.{length};
-ghost use Rattle.console.specs.Lines.{Said};
+ghost use Rattle.text.specs.Said.{Said};
 ghost use Rattle.console.specs.Replies.{answerTo};
 ghost use Rattle.console.specs.Gathered.{gathering, said, replyAt, lastReply};
 ghost use Rattle.console.specs.Feeding.{IsFed};
@@ -50,14 +50,14 @@ pub fn feed(
             byte,
             &mut out[filled..],
         ) {
-            Replied::Refused(_) => {
+            Written::Refused(_) => {
                 return Fed {
                     taken,
                     filled,
                     gathering,
                 };
             }
-            Replied::Written { bytes } => {
+            Written::Bytes { bytes } => {
                 filled += bytes;
             }
         }
@@ -80,13 +80,13 @@ fn said(
     gathering: Gathering,
     byte: u8,
     out: &mut [u8],
-) -> Replied
+) -> Written
     ensures { λ r. ⌜ Said
         (said (answerTo accepted (now (rules .entry)) (now (nodes .entry)) (now (pool .entry))) gathering byte)
         (now (out .entry)) r (now (out .exit)) ⌝ }
 {
     if byte != NEWLINE {
-        return Replied::Written { bytes: 0 };
+        return Written::Bytes { bytes: 0 };
     }
     let held = gathering.held;
     whole_line(
@@ -111,7 +111,7 @@ fn whole_line(
     count: usize,
     lines: usize,
     out: &mut [u8],
-) -> Replied
+) -> Written
     ensures { λ r. ⌜ Said
         (replyAt (answerTo accepted (now (rules .entry)) (now (nodes .entry)) (now (pool .entry)))
         (gathering held count lines)) (now (out .entry)) r (now (out .exit)) ⌝ }
@@ -123,12 +123,12 @@ fn whole_line(
 }
 
 // The reply at the end of input: nothing, or 10 to a last part without newline, of any length.
-pub fn last_reply(gathering: Gathering, out: &mut [u8]) -> Replied
+pub fn last_reply(gathering: Gathering, out: &mut [u8]) -> Written
     ensures { λ r. ⌜ Said (lastReply gathering) (now (out .entry)) r (now (out .exit)) ⌝ }
 {
     let lines = gathering.lines;
     if gathering.count == 0 {
-        return Replied::Written { bytes: 0 };
+        return Written::Bytes { bytes: 0 };
     }
     refused_line(Refusal::TextStops { lines }, out)
 }

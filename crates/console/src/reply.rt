@@ -1,17 +1,17 @@
 // The reply to one input line: the header is searched for in the list line by line, or by a tree.
 use crate::head::head_in;
-use crate::say::Replied;
 use crate::say::hit_line;
 use crate::say::refused_line;
 use rules::line::Listed;
 use rules::line::line_all;
 use rules::words::MOST_RULES;
 use text::cursor::wrong;
+use text::put::Written;
 use trees::search::TreeListed;
 use trees::search::tree_all;
 ghost use lib.ListN.{length};
 ghost use Rattle.rules.specs.LineAll.{Lists};
-ghost use Rattle.console.specs.Lines.{Said};
+ghost use Rattle.text.specs.Said.{Said};
 ghost use Rattle.console.specs.Replies.{searchVerdict, searchList, answerTo, lineReply};
 
 // The reply to a line, its newline apart, that has so many lines before it: by the tree if the tree check accepted it,
@@ -24,7 +24,7 @@ pub fn reply(
     lines: usize,
     line: &[u8],
     out: &mut [u8],
-) -> Replied
+) -> Written
     ensures { λ r. ⌜ Said (lineReply (answerTo accepted (now (rules .entry)) (now (nodes .entry)) (now (pool .entry)))
         lines (now (line .entry))) (now (out .entry)) r (now (out .exit)) ⌝ }
 {
@@ -44,7 +44,7 @@ fn answer(
     accepted: bool,
     header: &[u32],
     out: &mut [u8],
-) -> Replied
+) -> Written
     ensures { λ r. ⌜ Said (answerTo accepted (now (rules .entry)) (now (nodes .entry)) (now (pool .entry))
         (now (header .entry))) (now (out .entry)) r (now (out .exit)) ⌝ }
 {

@@ -3,6 +3,7 @@ use refusals::Refusal;
 use refusals::extra_of;
 use refusals::number_of;
 use refusals::place_of;
+use text::put::Written;
 use text::put::put;
 use text::put::put_bytes;
 use text::put::put_numbers;
@@ -15,36 +16,32 @@ ghost use Prim.Native.Nat.{_≤_};
 ghost use lib.ListN.{length};
 ghost use Rattle.rules.specs.Words.{mostRules};
 ghost use Rattle.text.specs.Puts.{Put};
-ghost use Rattle.console.specs.Lines.{refusedLine, hitLine, Said};
-
-pub enum Replied {
-    Refused(Refusal),
-    Written { bytes: usize },
-}
+ghost use Rattle.text.specs.Said.{Said};
+ghost use Rattle.console.specs.Lines.{refusedLine, hitLine};
 
 // The line of a refusal, from the front of `out` on; the rest of `out` is as found.
-pub fn refused_line(why: Refusal, out: &mut [u8]) -> Replied
+pub fn refused_line(why: Refusal, out: &mut [u8]) -> Written
     ensures { λ r. ⌜ Said (refusedLine why) (now (out .entry)) r (now (out .exit)) ⌝ }
 {
     let needed = put_refused(why, &mut out[..0]);
     if out.len() < needed {
-        return Replied::Refused(Refusal::OutputShort { needed, output: 0 });
+        return Written::Refused(Refusal::OutputShort { needed, output: 0 });
     }
-    Replied::Written {
+    Written::Bytes {
         bytes: put_refused(why, out),
     }
 }
 
 // The line of the numbers that match.
-pub(crate) fn hit_line(numbers: &[u32], out: &mut [u8]) -> Replied
+pub(crate) fn hit_line(numbers: &[u32], out: &mut [u8]) -> Written
     requires { ⌜ length (now numbers) ≤ mostRules ⌝ }
     ensures { λ r. ⌜ Said (hitLine (now (numbers .entry))) (now (out .entry)) r (now (out .exit)) ⌝ }
 {
     let needed = put_hit(numbers, &mut out[..0]);
     if out.len() < needed {
-        return Replied::Refused(Refusal::OutputShort { needed, output: 0 });
+        return Written::Refused(Refusal::OutputShort { needed, output: 0 });
     }
-    Replied::Written {
+    Written::Bytes {
         bytes: put_hit(numbers, out),
     }
 }

@@ -7,10 +7,11 @@ use Rattle.rules.specs.LineFirst as line-first
 use Rattle.trees.specs.TreeAll as tree-all
 use Rattle.trees.specs.TreeFirst as tree-first
 use Rattle.tree_check.specs.TreeCheck as tree-check
-use Rattle.rule_file.specs.WriteRules as rules-write
-use Rattle.rule_file.specs.ReadRules as rules-read
-use Rattle.tree_file.specs.WriteTree as tree-write
-use Rattle.tree_file.specs.ReadTree as tree-read
+use Rattle.text.specs.Said as said
+use Rattle.rule_file.specs.Writing as rules-write
+use Rattle.rule_file.specs.Reading as rules-read
+use Rattle.tree_file.specs.Writing as tree-write
+use Rattle.tree_file.specs.Reading as tree-read
 use Rattle.exports.specs.Answers.{plainly, countsLast, inOneWord, firstInWords, InWords}
 
 -- the lent words and the answer of a call
@@ -41,7 +42,7 @@ TreeCheckAnswered rs nodes pool answer =
 
 abbrev pub RulesWriteAnswered : Words → Words → Words → Words → Type 0
 RulesWriteAnswered rs found after answer =
-    InWords plainly rules-write.paper (λ r. rules-write.RulesWritten rs found r after) answer
+    InWords plainly said.paper (λ r. rules-write.RulesWritten rs found r after) answer
 
 abbrev pub RulesReadAnswered : Words → Words → Words → Words → Type 0
 RulesReadAnswered s found after answer =
@@ -49,7 +50,7 @@ RulesReadAnswered s found after answer =
 
 abbrev pub TreeWriteAnswered : ℕ → Words → Words → Words → Words → Words → Type 0
 TreeWriteAnswered n nodes pool found after answer =
-    InWords plainly tree-write.paper (λ r. tree-write.TreeWritten n nodes pool found r after) answer
+    InWords plainly said.paper (λ r. tree-write.TreeWritten n nodes pool found r after) answer
 
 abbrev pub TreeReadAnswered : Words → Words → Words → Words → Words → Words → Type 0
 TreeReadAnswered s nodes pool nodes′ pool′ answer =

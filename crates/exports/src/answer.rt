@@ -1,8 +1,10 @@
 // The eight words of an answer.
 use refusals::Refusal;
+use text::put::Written;
 ghost use mathlib.Core.Path.{_≡_};
 ghost use Rattle.refusals.specs.Paper.{onPaper};
-ghost use Rattle.exports.specs.Answers.{eight};
+ghost use Rattle.text.specs.Said as written;
+ghost use Rattle.exports.specs.Answers.{eight, plainly, inWords};
 
 // A refusal: its number, place and extra.
 pub(crate) fn of_refusal(why: Refusal) -> [u64; 8]
@@ -18,4 +20,14 @@ pub(crate) fn of_refusal(why: Refusal) -> [u64; 8]
         0,
         0,
     ]
+}
+
+// What a writer says: the value is how many bytes it wrote.
+pub(crate) fn of_written(said: Written) -> [u64; 8]
+    ensures { λ r. ⌜ r ≡ inWords plainly (written.paper said) ⌝ }
+{
+    match said {
+        Written::Refused(why) => of_refusal(why),
+        Written::Bytes { bytes } => [0, 0, 0, bytes as u64, 0, 0, 0, 0],
+    }
 }

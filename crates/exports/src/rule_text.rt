@@ -1,10 +1,9 @@
 // The writer and the reader of the rule file as C functions.
 use crate::answer::of_refusal;
+use crate::answer::of_written;
 use rule_file::read::Read;
-use rule_file::write::Written;
 ghost use mathlib.Core.Path.{_≡_};
-ghost use Rattle.rule_file.specs.ReadRules as read;
-ghost use Rattle.rule_file.specs.WriteRules as written;
+ghost use Rattle.rule_file.specs.Reading as read;
 ghost use Rattle.exports.specs.Answers.{plainly, inWords};
 ghost use Rattle.exports.specs.Calls.{RulesWriteAnswered, RulesReadAnswered};
 
@@ -24,15 +23,6 @@ pub extern "C" fn wick_rules_read(text: &[u8], rules: &mut [u32], answer: &mut [
         (now (answer .exit)) ⌝ }
 {
     *answer = of_read(rule_file::read::rules_read(text, rules));
-}
-
-fn of_written(said: Written) -> [u64; 8]
-    ensures { λ r. ⌜ r ≡ inWords plainly (written.paper said) ⌝ }
-{
-    match said {
-        Written::Refused(why) => of_refusal(why),
-        Written::Bytes { bytes } => [0, 0, 0, bytes as u64, 0, 0, 0, 0],
-    }
 }
 
 fn of_read(said: Read) -> [u64; 8]

@@ -1,10 +1,9 @@
 // The writer and the reader of the tree file as C functions.
 use crate::answer::of_refusal;
+use crate::answer::of_written;
 use tree_file::read::Read;
-use tree_file::write::Written;
 ghost use mathlib.Core.Path.{_≡_};
-ghost use Rattle.tree_file.specs.ReadTree as read;
-ghost use Rattle.tree_file.specs.WriteTree as written;
+ghost use Rattle.tree_file.specs.Reading as read;
 ghost use Rattle.exports.specs.Answers.{plainly, inWords};
 ghost use Rattle.exports.specs.Calls.{TreeWriteAnswered, TreeReadAnswered};
 
@@ -35,15 +34,6 @@ pub extern "C" fn wick_tree_read(
         (now (pool .exit)) (now (answer .exit)) ⌝ }
 {
     *answer = of_read(tree_file::read::tree_read(text, nodes, pool));
-}
-
-fn of_written(said: Written) -> [u64; 8]
-    ensures { λ r. ⌜ r ≡ inWords plainly (written.paper said) ⌝ }
-{
-    match said {
-        Written::Refused(why) => of_refusal(why),
-        Written::Bytes { bytes } => [0, 0, 0, bytes as u64, 0, 0, 0, 0],
-    }
 }
 
 fn of_read(said: Read) -> [u64; 8]

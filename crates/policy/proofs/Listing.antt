@@ -11,10 +11,8 @@ use Rattle.refusals.specs.declared.Refusal.{Refusal}
 use Rattle.refusals.specs.declared.Refusal.the-variants.{FileNotRead}
 use Rattle.refusals.specs.declared.Verdict.the-variants as verdict
 use Rattle.refusals.specs.Paper.{success}
-use Rattle.refusals.specs.Order.{roomVerdict}
-use Rattle.refusals.proofs.Order.{refused-not-fine, giving-refused, giving-fine, room-fine-iff}
-use Rattle.refusals.proofs.Order.{leaving-refused, leaving-fine}
-use Rattle.refusals.proofs.Giving.{success-giving, refusal-giving}
+use Rattle.refusals.proofs.Order.{refused-not-fine, room-fine-iff}
+use Rattle.refusals.proofs.Promises.{refused-by, fine-by, said-by, writes-refused, writes-fine, left-found, left-written}
 use Rattle.rules.specs.Words.{ruleWords, ruleCount}
 use Rattle.rules.specs.Good.{listVerdict}
 use Rattle.rules.proofs.Lists.{fine-iff-good}
@@ -22,13 +20,13 @@ use Rattle.text.specs.Text.{Reading, good, refused}
 use Rattle.rule_file.specs.declared.read.Read.{Read}
 use Rattle.rule_file.specs.declared.read.Read.the-variants as read
 use Rattle.rule_file.specs.RuleText.{rulesIn}
-use Rattle.rule_file.specs.ReadRules.{wordsIn, readVerdict, readRules, readRulesWords, RulesRead}
-use Rattle.rule_file.specs.ReadRules as reader
+use Rattle.rule_file.specs.Reading.{wordsIn, readVerdict, RulesRead}
+use Rattle.rule_file.specs.Reading as reader
 use Rattle.rule_file.proofs.Exact.{written-of-read}
 use Rattle.policy.specs.declared.list.Listed.{Listed}
 use Rattle.policy.specs.declared.list.Listed.the-variants.{Refused, Words}
 use Rattle.policy.specs.Files.{listIn}
-use Rattle.policy.specs.TakeList.{fileVerdict, ListTaken}
+use Rattle.policy.specs.TakeList.{ListTaken}
 
 -- ---- what the reader said
 
@@ -38,18 +36,18 @@ pub words-whole :
 words-whole s (refused why) e = refl
 words-whole s (good ws) e = omega (arith, fine-iff-good ws .0 (written-of-read s ws e .1) .whole)
 
-module _ {s before after : List ℕ} {r : Read} (t : RulesRead s before r after) where
+module _ (s : List ℕ) {before after : List ℕ} {r : Read} (t : RulesRead s before r after) where
   -- its refusal
   pub list-refused : {why : Refusal} → r ≡ read.Refused why → ListTaken (some s) before (Refused why) after
-  unfolding readRules readRulesWords listIn fileVerdict
+  unfolding listIn
   list-refused {why} e =
-      let v = refusal-giving _ _ {why = why} (ap reader.paper (sym e) ∙ t .answers) in
-      record { answers = sym (giving-refused {why = why} _ v); leaves = t .leaves }
+      let v : readVerdict (rulesIn s) (length before) ≡ verdict.Refused why =
+      refused-by (said-by t) (ap reader.paper e) in
+      writes-refused v refl (left-found t v)
 
   module _ {n : ℕ} (e : r ≡ read.Rules n) where
     says : (readVerdict (rulesIn s) (length before) ≡ verdict.Fine) × (n ∷ [] ≡ ruleCount (wordsIn (rulesIn s)) ∷ [])
-    unfolding readRules
-    says = success-giving _ _ (ap reader.paper (sym e) ∙ t .answers)
+    says = fine-by (said-by t) (ap reader.paper e)
 
     size : n * ruleWords ≡ length (wordsIn (rulesIn s))
     size =
@@ -58,12 +56,8 @@ module _ {s before after : List ℕ} {r : Read} (t : RulesRead s before r after)
 
     -- its rules, ten words each
     pub list-found : ListTaken (some s) before (Words (n * ruleWords)) after
-    unfolding readRulesWords listIn fileVerdict
-    list-found =
-        record {
-          answers = ap (λ (k : ℕ). success (k ∷ [])) size ∙ sym (giving-fine _ (says .0));
-          leaves = t .leaves;
-        }
+    unfolding listIn
+    list-found = writes-fine (says .0) (ap (λ (k : ℕ). success (k ∷ [])) size) (left-written t (says .0))
 
     -- they stand within the lent words
     pub list-within : n * ruleWords ≤ length before
@@ -75,35 +69,32 @@ module _ {s before after : List ℕ} {r : Read} (t : RulesRead s before r after)
 
 -- a file that was not read
 pub list-not-read : (before : List ℕ) → ListTaken none before (Refused FileNotRead) before
-unfolding listIn fileVerdict
-list-not-read before =
-    record {
-      answers = sym (giving-refused {why = FileNotRead} _ refl);
-      leaves = sym (leaving-refused {why = FileNotRead} _ before refl);
-    }
+unfolding listIn
+list-not-read before = writes-refused {why = FileNotRead} refl refl refl
 
 -- what is taken of a file goes by its text alone
 pub list-by :
-    {f g : Option (List ℕ)} {before after : List ℕ} {r : Listed} → g ≡ f → ListTaken g before r after →
+    (f g : Option (List ℕ)) {before after : List ℕ} {r : Listed} → g ≡ f → ListTaken g before r after →
     ListTaken f before r after
-list-by {before = before} {after = after} {r = r} e t = subst (λ (x : Option (List ℕ)). ListTaken x before r after) e t
+list-by f g {before} {after} {r} e t = subst (λ (x : Option (List ℕ)). ListTaken x before r after) e t
 
 -- ---- what was taken
 
 -- a list that is taken is the list that the file holds, and stands in front of the lent words
 pub taken-list :
-    {f : Option (List ℕ)} {before after : List ℕ} {n : ℕ} → ListTaken f before (Words n) after →
+    (f : Option (List ℕ)) {before after : List ℕ} {n : ℕ} → ListTaken f before (Words n) after →
     (listIn f ≡ good (take n after)) × (n ≤ length after)
-unfolding fileVerdict written
-taken-list {f} {before} {after} {n} t = go (listIn f) refl
+unfolding written
+taken-list f {before} {after} {n} t = go (listIn f) refl
   where
+    says : (readVerdict (listIn f) (length before) ≡ verdict.Fine) × (n ∷ [] ≡ length (wordsIn (listIn f)) ∷ [])
+    says = fine-by (said-by t) refl
+
     go : (a : Reading (List ℕ)) → listIn f ≡ a → (a ≡ good (take n after)) × (n ≤ length after)
-    go (refused why) e =
-        refused-not-fine (success-giving (verdict.Refused why) _ (rw e at (t .answers)) .0)
+    go (refused why) e = refused-not-fine (rw e at (says .0))
     go (good ws) e =
-        let w = success-giving (roomVerdict (length ws) (length before)) (length ws ∷ []) (rw e at (t .answers)) in
-        let count : length ws ≡ n = (let z = w .1 in cc) in
-        let left : after ≡ written ws before = (rw e at (t .leaves)) ∙ leaving-fine _ _ (w .0) in (
+        let count : length ws ≡ n = (let z : n ∷ [] ≡ length ws ∷ [] = rw e at (says .1) in cc) in
+        let left : after ≡ written ws before = rw e at (left-written t (says .0)) in (
           rw left (ap good (sym (written-front ws before n count))),
           rw (left, length-append ws (drop (length ws) before)) (omega (arith, count)),
         )

@@ -20,15 +20,14 @@ use Rattle.tree_check.specs.TreeCheck.{checkVerdict}
 use Rattle.tree_check.proofs.Accepts.{accepts-iff-serves}
 use Rattle.text.specs.Text.{Reading, good, refused}
 use Rattle.rule_file.specs.RuleText.{rulesIn}
-use Rattle.rule_file.specs.ReadRules.{readVerdict}
+use Rattle.rule_file.specs.Reading as rule-file
 use Rattle.rule_file.proofs.Exact.{written-of-read}
 use Rattle.tree_file.specs.TreeText.{Tree, tree, treeIn}
-use Rattle.tree_file.specs.ReadTree.{roomFor, verdictOf, nodesOf, poolOf}
+use Rattle.tree_file.specs.Reading.{roomFor, readVerdict, nodesIn, poolIn}
 use Rattle.tree_file.proofs.RoundTrips.{spelling-of-read}
 use Rattle.console.specs.Gathered.{inputReplies}
 use Rattle.console.proofs.Agreeing.{input-alike}
 use Rattle.policy.specs.Files.{listIn, treeOf}
-use Rattle.policy.specs.TakeList.{fileVerdict}
 use Rattle.policy.specs.Output.{ownVerdict, servingVerdict, byList, byServing, verdictLine, onList, output}
 use Rattle.policy.specs.Output.{TreeServes}
 use Rattle.policy.proofs.Servers.{serving-as-list}
@@ -39,8 +38,8 @@ use Rattle.policy.proofs.Servers.{serving-as-list}
 by-serving-as-list : (rs : List ℕ) (t : Reading Tree) (h : List ℕ) → byServing rs t h ≡ byList rs h
 unfolding byServing servingVerdict
 by-serving-as-list rs t h =
-    serving-as-list rs (nodesOf t) (poolOf t) (nodesOf t) (poolOf t) (servingVerdict rs t)
-    (λ e. then-fine-iff _ _ .0 e .1) (take-length (nodesOf t)) (take-length (poolOf t)) h
+    serving-as-list rs (nodesIn t) (poolIn t) (nodesIn t) (poolIn t) (servingVerdict rs t)
+    (λ e. then-fine-iff _ _ .0 e .1) (take-length (nodesIn t)) (take-length (poolIn t)) h
 
 module _ (f g : Option (List ℕ)) (s : List ℕ) where
   with-list : Reading (List ℕ) → List ℕ
@@ -69,7 +68,7 @@ unfolding servingVerdict
 accepted-iff rs f = (λ e. to (treeOf f) refl e, of)
   where
     to :
-        (t : Reading Tree) → treeOf f ≡ t → (ownVerdict t then checkVerdict rs (nodesOf t) (poolOf t)) ≡ Fine →
+        (t : Reading Tree) → treeOf f ≡ t → (ownVerdict t then checkVerdict rs (nodesIn t) (poolIn t)) ≡ Fine →
         TreeServes rs f
     to (refused why) q e = refused-not-fine (then-fine-iff (Refused why) _ .0 e .0)
     to (good (tree n ns es)) q e =
@@ -84,12 +83,13 @@ accepted-iff rs f = (λ e. to (treeOf f) refl e, of)
 -- ---- the program's rooms
 
 -- words for the most rules are room for any list, so that the file alone decides
-pub list-room : (f : Option (List ℕ)) {a : ℕ} → mostRules * ruleWords ≤ a → fileVerdict f a ≡ ownVerdict (listIn f)
-unfolding fileVerdict listIn
+pub list-room :
+    (f : Option (List ℕ)) {a : ℕ} → mostRules * ruleWords ≤ a → rule-file.readVerdict (listIn f) a ≡ ownVerdict (listIn f)
+unfolding listIn
 list-room none h = refl
 list-room (some s) {a} h = go (rulesIn s) refl
   where
-    go : (t : Reading (List ℕ)) → rulesIn s ≡ t → readVerdict t a ≡ ownVerdict t
+    go : (t : Reading (List ℕ)) → rulesIn s ≡ t → rule-file.readVerdict t a ≡ ownVerdict t
     go (refused why) e = refl
     go (good ws) e =
         let few = fine-iff-good ws .0 (written-of-read s ws e .1) .few in room-fine-iff (length ws) a .1 (omega arith)
@@ -97,12 +97,12 @@ list-room (some s) {a} h = go (rulesIn s) refl
 -- words for the most nodes and for the longest pool are room for any tree
 pub tree-room :
     (f : Option (List ℕ)) {a b : ℕ} → mostNodes * nodeWords ≤ a → mostPool ≤ b →
-    verdictOf (treeOf f) a b ≡ ownVerdict (treeOf f)
-unfolding treeOf verdictOf roomFor
+    readVerdict (treeOf f) a b ≡ ownVerdict (treeOf f)
+unfolding treeOf roomFor
 tree-room none h k = refl
 tree-room (some s) {a} {b} h k = go (treeIn s) refl
   where
-    go : (t : Reading Tree) → treeIn s ≡ t → verdictOf t a b ≡ ownVerdict t
+    go : (t : Reading Tree) → treeIn s ≡ t → readVerdict t a b ≡ ownVerdict t
     go (refused why) e = refl
     go (good (tree n ns es)) e =
         let fits = sizes-fine-iff ns es .0 (spelling-of-read s n ns es e .sizes) in

@@ -18,7 +18,7 @@ use Rattle.tree_check.specs.declared.check.TreeAnswer.{TreeAnswer}
 use Rattle.tree_check.specs.declared.check.TreeAnswer.the-variants as checked
 use Rattle.tree_check.specs.TreeCheck.{checkVerdict, TreeChecked}
 use Rattle.tree_check.specs.TreeCheck as check
-use Rattle.tree_file.specs.ReadTree.{verdictOf, nodesOf, poolOf}
+use Rattle.tree_file.specs.Reading.{readVerdict, nodesIn, poolIn}
 use Rattle.console.specs.Replies.{searchVerdict, searchList, answerTo}
 use Rattle.console.proofs.Agreeing.{same-answer}
 use Rattle.policy.specs.declared.tree.Taken.{Taken}

@@ -11,17 +11,15 @@ use Rattle.refusals.specs.declared.Refusal.the-variants.{FileNotRead}
 use Rattle.refusals.specs.declared.Verdict.the-variants as verdict
 use Rattle.refusals.specs.Paper.{success}
 use Rattle.refusals.proofs.Order.{refused-not-fine, fine-iff-holds, then-fine-iff, room-fine-iff}
-use Rattle.refusals.proofs.Order.{giving-refused, giving-fine, leaving-refused}
-use Rattle.refusals.proofs.Giving.{success-giving, refusal-giving}
+use Rattle.refusals.proofs.Promises.{refused-by, fine-by, said-by, writes-refused, writes-fine, left-found, left-written}
 use Rattle.trees.specs.Words.{nodeWords, nodeCount}
 use Rattle.trees.proofs.Sizes.{sizes-fine-iff}
 use Rattle.text.specs.Text.{Reading, good, refused}
 use Rattle.tree_file.specs.declared.read.Read.{Read}
 use Rattle.tree_file.specs.declared.read.Read.the-variants as read
 use Rattle.tree_file.specs.TreeText.{Tree, tree, treeIn}
-use Rattle.tree_file.specs.ReadTree.{roomFor, verdictOf, valuesOf, nodesOf, poolOf}
-use Rattle.tree_file.specs.ReadTree.{readVerdict, readTree, readNodes, readPool, TreeRead}
-use Rattle.tree_file.specs.ReadTree as reader
+use Rattle.tree_file.specs.Reading.{roomFor, readVerdict, valuesIn, nodesIn, poolIn, TreeRead}
+use Rattle.tree_file.specs.Reading as reader
 use Rattle.tree_file.proofs.RoundTrips.{spelling-of-read}
 use Rattle.policy.specs.declared.tree.Taken.{Taken}
 use Rattle.policy.specs.declared.tree.Taken.the-variants.{Refused, Words}
@@ -33,9 +31,9 @@ use Rattle.policy.specs.TakeTree.{TreeTaken}
 module _ (s : List ℕ) (a b : ℕ) where
   -- the nodes of a tree that was read are three words each, and they and the pool are within the rooms a and b
   pub tree-sizes :
-      (t : Reading Tree) → treeIn s ≡ t → verdictOf t a b ≡ verdict.Fine → {k m p : ℕ} → k ∷ m ∷ p ∷ [] ≡ valuesOf t →
-      (m * nodeWords ≡ length (nodesOf t)) × (p ≡ length (poolOf t)) × (m * nodeWords ≤ a)
-  unfolding verdictOf roomFor
+      (t : Reading Tree) → treeIn s ≡ t → readVerdict t a b ≡ verdict.Fine → {k m p : ℕ} → k ∷ m ∷ p ∷ [] ≡ valuesIn t →
+      (m * nodeWords ≡ length (nodesIn t)) × (p ≡ length (poolIn t)) × (m * nodeWords ≤ a)
+  unfolding roomFor
   tree-sizes (refused why) q e z = refused-not-fine e
   tree-sizes (good (tree n ns es)) q e {k} {m} {p} z =
       let room = room-fine-iff (length ns) a .0 (then-fine-iff _ _ .0 e .0) in
@@ -44,40 +42,35 @@ module _ (s : List ℕ) (a b : ℕ) where
       let total : p ≡ length es = cc in
       (omega (arith, count, whole), total, omega (arith, count, room))
 
-module _ {s nodes pool nodes′ pool′ : List ℕ} {r : Read} (t : TreeRead s nodes pool r nodes′ pool′) where
+module _ (s : List ℕ) {nodes pool nodes′ pool′ : List ℕ} {r : Read} (t : TreeRead s nodes pool r nodes′ pool′) where
   -- its refusal
   pub tree-refused :
       {why : Refusal} → r ≡ read.Refused why → TreeTaken (some s) nodes pool (Refused why) nodes′ pool′
-  unfolding readTree readNodes readPool readVerdict treeOf
+  unfolding treeOf
   tree-refused {why} e =
-      let v = refusal-giving (verdictOf (treeIn s) (length nodes) (length pool)) _ {why = why}
-      (ap reader.paper (sym e) ∙ t .answers) in
-      record {
-        answers = sym (giving-refused {why = why} _ v);
-        leaves-nodes = t .leaves-nodes;
-        leaves-pool = t .leaves-pool;
-      }
+      let v : readVerdict (treeIn s) (length nodes) (length pool) ≡ verdict.Refused why =
+      refused-by (said-by (t .0)) (ap reader.paper e) in
+      (writes-refused v refl (left-found (t .0) v), writes-refused v refl (left-found (t .1) v))
 
   module _ {k m p : ℕ} (e : r ≡ read.Tree k m p) where
     says :
-        (verdictOf (treeIn s) (length nodes) (length pool) ≡ verdict.Fine) × (k ∷ m ∷ p ∷ [] ≡ valuesOf (treeIn s))
-    unfolding readTree readVerdict
-    says = success-giving _ _ (ap reader.paper (sym e) ∙ t .answers)
+        (readVerdict (treeIn s) (length nodes) (length pool) ≡ verdict.Fine) × (k ∷ m ∷ p ∷ [] ≡ valuesIn (treeIn s))
+    says = fine-by (said-by (t .0)) (ap reader.paper e)
 
     sizes :
-        (m * nodeWords ≡ length (nodesOf (treeIn s))) × (p ≡ length (poolOf (treeIn s))) ×
+        (m * nodeWords ≡ length (nodesIn (treeIn s))) × (p ≡ length (poolIn (treeIn s))) ×
         (m * nodeWords ≤ length nodes)
     sizes = tree-sizes s (length nodes) (length pool) (treeIn s) refl (says .0) (says .1)
 
     -- its nodes, three words each, and its pool
     pub tree-found : TreeTaken (some s) nodes pool (Words (m * nodeWords) p) nodes′ pool′
-    unfolding readNodes readPool readVerdict treeOf
+    unfolding treeOf
     tree-found =
-        record {
-          answers = rw (sizes .0, sizes .1) (sym (giving-fine _ (says .0)));
-          leaves-nodes = t .leaves-nodes;
-          leaves-pool = t .leaves-pool;
-        }
+        let words : success (m * nodeWords ∷ p ∷ []) ≡
+        success (length (nodesIn (treeIn s)) ∷ length (poolIn (treeIn s)) ∷ []) = rw (sizes .0, sizes .1) in (
+          writes-fine (says .0) words (left-written (t .0) (says .0)),
+          writes-fine (says .0) words (left-written (t .1) (says .0)),
+        )
 
     -- the nodes are within the lent words
     pub tree-within : m * nodeWords ≤ length nodes
@@ -85,17 +78,13 @@ module _ {s nodes pool nodes′ pool′ : List ℕ} {r : Read} (t : TreeRead s n
 
 -- a file that was not read
 pub tree-not-read : (nodes pool : List ℕ) → TreeTaken none nodes pool (Refused FileNotRead) nodes pool
-unfolding treeOf verdictOf
+unfolding treeOf
 tree-not-read nodes pool =
-    record {
-      answers = sym (giving-refused {why = FileNotRead} _ refl);
-      leaves-nodes = sym (leaving-refused {why = FileNotRead} _ nodes refl);
-      leaves-pool = sym (leaving-refused {why = FileNotRead} _ pool refl);
-    }
+    (writes-refused {why = FileNotRead} refl refl refl, writes-refused {why = FileNotRead} refl refl refl)
 
 -- what is taken of a file goes by its text alone
 pub tree-by :
-    {f g : Option (List ℕ)} {nodes pool nodes′ pool′ : List ℕ} {r : Taken} → g ≡ f →
+    (f g : Option (List ℕ)) {nodes pool nodes′ pool′ : List ℕ} {r : Taken} → g ≡ f →
     TreeTaken g nodes pool r nodes′ pool′ → TreeTaken f nodes pool r nodes′ pool′
-tree-by {nodes = nodes} {pool = pool} {nodes′ = nodes′} {pool′ = pool′} {r = r} e t =
+tree-by f g {nodes} {pool} {nodes′} {pool′} {r} e t =
     subst (λ (x : Option (List ℕ)). TreeTaken x nodes pool r nodes′ pool′) e t

@@ -19,7 +19,7 @@ use Rattle.tree_check.specs.TreeCheck.{checkVerdict}
 use Rattle.tree_check.specs.Serves.{Serves}
 use Rattle.text.specs.Text.{Reading, good, refused}
 use Rattle.tree_file.specs.TreeText.{Tree, tree}
-use Rattle.tree_file.specs.ReadTree.{nodesOf, poolOf}
+use Rattle.tree_file.specs.Reading.{nodesIn, poolIn}
 use Rattle.console.specs.Lines.{refusedLine}
 use Rattle.console.specs.Replies.{answerTo}
 use Rattle.console.specs.Gathered.{inputReplies}
@@ -32,7 +32,7 @@ ownVerdict (good r) = Fine
 ownVerdict (refused why) = Refused why
 
 unfoldable pub servingVerdict : List ℕ → Reading Tree → Verdict
-servingVerdict rs t = ownVerdict t then checkVerdict rs (nodesOf t) (poolOf t)
+servingVerdict rs t = ownVerdict t then checkVerdict rs (nodesIn t) (poolIn t)
 
 unfoldable pub byList : List ℕ → List ℕ → List ℕ
 byList rs = answerTo false rs [] []
@@ -41,7 +41,7 @@ abbrev pub answersBy : Serving → List ℕ → List ℕ → List ℕ → List �
 answersBy s rs ns es = answerTo (s .accepted) rs (take (s .nodes) ns) (take (s .pool) es)
 
 unfoldable pub byServing : List ℕ → Reading Tree → List ℕ → List ℕ
-byServing rs t = answersBy (serving (servingVerdict rs t) (nodesOf t) (poolOf t)) rs (nodesOf t) (poolOf t)
+byServing rs t = answersBy (serving (servingVerdict rs t) (nodesIn t) (poolIn t)) rs (nodesIn t) (poolIn t)
 
 abbrev pub verdictLine : Verdict → List ℕ
 verdictLine Fine = []

@@ -1,16 +1,16 @@
 // The line that the program writes for a verdict.
-use console::say::Replied;
 use console::say::refused_line;
 use refusals::Verdict;
-ghost use Rattle.console.specs.Lines.{Said};
+use text::put::Written;
+ghost use Rattle.text.specs.Said.{Said};
 ghost use Rattle.policy.specs.Output.{verdictLine};
 
 // The line of a refusal, from the front of `out` on; nothing where the verdict is fine. The rest of `out` is as found.
-pub fn verdict_line(verdict: Verdict, out: &mut [u8]) -> Replied
+pub fn verdict_line(verdict: Verdict, out: &mut [u8]) -> Written
     ensures { λ r. ⌜ Said (verdictLine verdict) (now (out .entry)) r (now (out .exit)) ⌝ }
 {
     match verdict {
-        Verdict::Fine => Replied::Written { bytes: 0 },
+        Verdict::Fine => Written::Bytes { bytes: 0 },
         Verdict::Refused(why) => refused_line(why, out),
     }
 }

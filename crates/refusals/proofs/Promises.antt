@@ -89,6 +89,15 @@ module _
         leaves = w .leaves ∙ ap (λ (x : Verdict). leaving x (written new found) found) (sym (then-fine v e));
       }
 
+-- a call that is lent two outputs has one answer, and one state of both
+pub both-unique :
+    {R : Type 0} {paper : R → Paper} {v : Verdict} {values new found more held : List ℕ} {r s : R} {x y a b : List ℕ} →
+    Apart paper → Writes paper v values new found r x × Writes paper v values more held r y →
+    Writes paper v values new found s a × Writes paper v values more held s b →
+    (r ≡ s) × (x ≡ a) × (y ≡ b)
+both-unique apart p q =
+    let one = writes-unique apart (p .0) (q .0) in (one .0, one .1, writes-unique apart (p .1) (q .1) .1)
+
 -- ---- what is written
 
 -- what is left goes by what is said

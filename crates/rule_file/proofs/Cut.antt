@@ -1,5 +1,5 @@
 -- A rule file that is cut before its end is refused.
-use Prim.Native.Nat.{ℕ, _+_}
+use Prim.Native.Nat.{ℕ}
 use native.Mathlib.Nat.{zero-add}
 use mathlib.Core.Option.{none, some}
 use mathlib.Core.List.{List, [], _++_}

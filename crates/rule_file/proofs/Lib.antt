@@ -13,6 +13,4 @@ pub mod Lengths
 pub mod Reader
 pub mod Passes
 pub mod ReadAnswers
-pub mod WriteAnswers
-pub mod Unique
 pub mod Calls

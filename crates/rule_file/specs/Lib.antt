@@ -1,6 +1,6 @@
 -- The rule file: one rule and its line, the whole text, and the promises of its reader and its writer.
 pub mod Records
 pub mod RuleText
-pub mod ReadRules
+pub mod Reading
 pub mod ReadSteps
-pub mod WriteRules
+pub mod Writing

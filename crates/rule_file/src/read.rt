@@ -17,7 +17,7 @@ ghost use Prim.Native.Nat.{_≤_, _<_};
 ghost use Rattle.rules.specs.Words.{mostRules};
 ghost use Rattle.text.specs.Onward.{Stands};
 ghost use Rattle.rule_file.specs.RuleText.{rulesIn};
-ghost use Rattle.rule_file.specs.ReadRules.{RulesRead};
+ghost use Rattle.rule_file.specs.Reading.{RulesRead};
 ghost use Rattle.rule_file.specs.ReadSteps.{restFrom, HeadIs, RuleIs, EndIs, PassIs};
 
 pub enum Read {

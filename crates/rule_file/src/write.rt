@@ -5,6 +5,7 @@ use refusals::Refusal;
 use refusals::Verdict;
 use rules::check::list_verdict;
 use rules::words::RULE_WORDS;
+use text::put::Written;
 use text::put::put_line;
 use text::words::END;
 use text::words::ONE_TAB;
@@ -18,14 +19,10 @@ ghost use Rattle.refusals.specs.declared.Verdict.the-variants.{Fine};
 ghost use Rattle.rules.specs.Words.{ruleWords, mostRules};
 ghost use Rattle.rules.specs.Good.{listVerdict};
 ghost use Rattle.text.specs.Puts.{Put};
+ghost use Rattle.text.specs.Said.{Said};
 ghost use Rattle.rule_file.specs.Records.{ruleAt};
 ghost use Rattle.rule_file.specs.RuleText.{ended, headLine, ruleLine, endLine, rulesText};
-ghost use Rattle.rule_file.specs.WriteRules.{RulesWritten};
-
-pub enum Written {
-    Refused(Refusal),
-    Bytes { bytes: usize },
-}
+ghost use Rattle.rule_file.specs.Writing.{RulesWritten};
 
 // A list as text, from the front of `text` on; the rest of `text` is as found. A refusal writes nothing.
 pub fn rules_write(rules: &[u32], text: &mut [u8]) -> Written
@@ -33,14 +30,14 @@ pub fn rules_write(rules: &[u32], text: &mut [u8]) -> Written
 {
     match list_verdict(rules) {
         Verdict::Refused(why) => Written::Refused(why),
-        Verdict::Fine => write_good(rules, text),
+        Verdict::Fine => write_whole(rules, text),
     }
 }
 
 // A good list as text, where there is room for all of it.
-fn write_good(rules: &[u32], text: &mut [u8]) -> Written
+fn write_whole(rules: &[u32], text: &mut [u8]) -> Written
     requires { ⌜ listVerdict (now rules) ≡ Fine ⌝ }
-    ensures { λ r. ⌜ RulesWritten (now (rules .entry)) (now (text .entry)) r (now (text .exit)) ⌝ }
+    ensures { λ r. ⌜ Said (rulesText (now (rules .entry))) (now (text .entry)) r (now (text .exit)) ⌝ }
 {
     let needed = write_pass(rules, &mut text[..0]);
     if text.len() < needed {

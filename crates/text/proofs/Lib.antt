@@ -22,3 +22,4 @@ pub mod NextLines
 pub mod Onward
 pub mod Sizes
 pub mod Unique
+pub mod Said

@@ -8,3 +8,4 @@ pub mod Addresses
 pub mod Cursors
 pub mod Onward
 pub mod Puts
+pub mod Said

@@ -4,6 +4,7 @@
 //   cursor::Cursor::fields, number_behind, end     its parts: the word and its numbers; one number; nothing more
 //   put::put_line, put_fields, put_numbers         the same, written as far as there is room
 //   put::put_bytes, put_behind, put_wide, put      its parts: a word; a number behind a separator; one byte
+//   put::Written                                   the answer of a call that counts some bytes and then puts them
 //   address::octets_fit, address_of                the address of four octets
 //   words                                          the fixed words and separators
 // Each takes any bytes and any places. Rests on facts and refusals.

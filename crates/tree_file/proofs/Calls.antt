@@ -4,149 +4,101 @@ use Prim.Native.Nat.{ℕ, _*_, _≤_, _^_}
 use native.Mathlib.Omega.{arith}
 use mathlib.Core.Path.{_≡_, refl, sym, ap, _∙_}
 use mathlib.Core.List.{List, [], _∷_, _++_}
-use lib.Dec.{leb}
-use lib.ListN.{length, take, drop}
+use lib.ListN.{length, take}
 use borrow.Author.Tests.{le-leb}
 use Rattle.facts.specs.Lists.{written}
-use Rattle.facts.proofs.Setting.{written-front, written-behind}
-use Rattle.refusals.specs.declared.Refusal.{Refusal}
-use Rattle.refusals.specs.declared.Refusal.the-variants.{OutputShort, TextStops}
+use Rattle.facts.proofs.Setting.{written-front}
+use Rattle.refusals.specs.declared.Refusal.the-variants.{TextStops}
 use Rattle.refusals.specs.declared.Verdict.the-variants as verdict
-use Rattle.refusals.specs.Paper.{success, onPaper}
-use Rattle.refusals.specs.Order.{refuseUnless, roomVerdict, _then_}
-use Rattle.refusals.proofs.Order.{holds-fine, then-fine, then-fine-iff, room-fine-iff}
-use Rattle.refusals.proofs.Order.{giving-refused, giving-fine, leaving-refused, leaving-fine}
-use Rattle.refusals.proofs.Unique.{refusal-not-success}
-use Rattle.refusals.proofs.Giving.{success-giving}
-use Rattle.trees.specs.Words.{nodeWords, nodeCount, sizeVerdict}
+use Rattle.refusals.proofs.Order.{holds-fine, then-fine, then-fine-iff, room-fine-iff, refused-not-fine}
+use Rattle.refusals.proofs.Promises.{said-by, fine-by, left-written, writes-unique, writes-fine, writes-refused, both-unique}
+use Rattle.trees.specs.Words.{nodeWords, nodeCount}
 use Rattle.trees.proofs.Sizes.{sizes-fine-iff}
+use Rattle.text.specs.declared.put.Written.{Written}
+use Rattle.text.specs.declared.put.Written.the-variants.{Bytes}
 use Rattle.text.specs.Line.{EachUnder}
 use Rattle.text.specs.Text.{Reading, good, refused, split, linesOf}
+use Rattle.text.proofs.Said.{written-apart}
+use Rattle.tree_file.specs.declared.read.Read.{Read}
 use Rattle.tree_file.specs.declared.read.Read.the-variants as read
-use Rattle.tree_file.specs.declared.write.Written.the-variants as write
 use Rattle.tree_file.specs.TreeText.{Tree, tree, treeIn}
 use Rattle.tree_file.specs.TreeLines.{treeText, Spelling}
-use Rattle.tree_file.specs.ReadTree.{roomFor, verdictOf, readVerdict, readTree, readNodes, readPool, TreeRead}
-use Rattle.tree_file.specs.WriteTree.{spellingVerdict, writeVerdict, writeTree, writeTreeBytes, TreeWritten}
+use Rattle.tree_file.specs.Reading.{valuesIn, nodesIn, poolIn, roomFor, readVerdict, TreeRead}
+use Rattle.tree_file.specs.Writing.{writeVerdict, TreeWritten}
 use Rattle.tree_file.proofs.RoundTrips.{read-of-written, written-of-read, spelling-of-read, cut-refused}
-use Rattle.tree_file.proofs.Written.{spelling-of-fine, fine-of-spelling}
-
--- ---- a text of which the reading is known
-
-module _ (s nodes pool : List ℕ) where
-  -- a text that holds a tree, where there is room for it
-  pub reads-well :
-      (n : ℕ) (ns es : List ℕ) → treeIn s ≡ good (tree n ns es) → length ns ≤ length nodes → length es ≤ length pool →
-      (readTree s (length nodes) (length pool) ≡ success (n ∷ nodeCount ns ∷ length es ∷ [])) ×
-      (readNodes s nodes pool ≡ written ns nodes) × (readPool s nodes pool ≡ written es pool)
-  unfolding readTree readNodes readPool readVerdict verdictOf roomFor
-  reads-well n ns es e a b =
-      let there = room-fine-iff (length ns) (length nodes) .1 a in
-      let fine : (roomVerdict (length ns) (length nodes) then
-      refuseUnless (leb (length es) (length pool)) (OutputShort (length es) 1)) ≡ verdict.Fine =
-      then-fine _ there ∙ holds-fine _ (le-leb (length es) (length pool) b) in
-      rw e (giving-fine _ fine, leaving-fine _ _ fine, leaving-fine _ _ fine)
-
-  -- a text that is refused
-  pub reads-not :
-      (why : Refusal) → treeIn s ≡ refused why →
-      (readTree s (length nodes) (length pool) ≡ onPaper why) × (readNodes s nodes pool ≡ nodes) ×
-      (readPool s nodes pool ≡ pool)
-  unfolding readTree readNodes readPool readVerdict verdictOf
-  reads-not why e = rw e (giving-refused _ refl, leaving-refused _ _ refl, leaving-refused _ _ refl)
+use Rattle.tree_file.proofs.SpellingVerdict.{spelling-of-fine, fine-of-spelling}
+use Rattle.tree_file.proofs.ReadAnswers.{read-apart}
 
 -- ---- after the writer
 
-module _
-    {n : ℕ} {ns es before after : List ℕ} {k : ℕ} (w : TreeWritten n ns es before (write.Bytes k) after) where
+module _ (n : ℕ) (ns es : List ℕ) {before after : List ℕ} {k : ℕ} (w : TreeWritten n ns es before (Bytes k) after) where
   abbrev text : List ℕ
   text = treeText n ns es
 
   wrote : (writeVerdict n ns es (length before) ≡ verdict.Fine) × (k ∷ [] ≡ length text ∷ [])
-  unfolding writeTree
-  wrote = success-giving (writeVerdict n ns es (length before)) (length text ∷ []) (w .answers)
+  wrote = fine-by (said-by w) refl
 
-  spelt : Spelling n ns es
-  unfolding writeVerdict
-  spelt =
-      spelling-of-fine n ns es
-      (then-fine-iff (spellingVerdict n ns es) (roomVerdict (length text) (length before)) .0 (wrote .0) .0)
-
-  size : length text ≡ k
-  size = let e = wrote .1 in cc
-
-  left : after ≡ written text before
-  unfolding writeTreeBytes
-  left = w .leaves ∙ leaving-fine _ _ (wrote .0)
-
-  -- the bytes in front are the text of the tree, and those behind them are as found
-  pub wrote-text : (take k after ≡ text) × (drop k after ≡ drop k before)
-  wrote-text = rw left (written-front text before k size, written-behind text before k size)
+  -- the bytes in front are the text of a tree that is spelt
+  wrote-text : (take k after ≡ text) × Spelling n ns es
+  wrote-text =
+      let size : length text ≡ k = (let e = wrote .1 in cc) in (
+        rw (left-written w (wrote .0)) (written-front text before k size),
+        spelling-of-fine n ns es (then-fine-iff _ _ .0 (wrote .0) .0),
+      )
 
   -- what was written reads back as the same tree
   pub reads-back :
-      EachUnder (2 ^ 32) ns → (nodes pool : List ℕ) → length ns ≤ length nodes → length es ≤ length pool →
-      (readTree (take k after) (length nodes) (length pool) ≡ success (n ∷ nodeCount ns ∷ length es ∷ [])) ×
-      (readNodes (take k after) nodes pool ≡ written ns nodes) × (readPool (take k after) nodes pool ≡ written es pool)
-  reads-back b nodes pool =
-      reads-well (take k after) nodes pool n ns es (rw (wrote-text .0) (read-of-written spelt b))
+      EachUnder (2 ^ 32) ns → {nodes pool x y : List ℕ} {r : Read} → length ns ≤ length nodes →
+      length es ≤ length pool → TreeRead (take k after) nodes pool r x y →
+      (r ≡ read.Tree n (nodeCount ns) (length es)) × (x ≡ written ns nodes) × (y ≡ written es pool)
+  unfolding roomFor
+  reads-back b {nodes} {pool} room more q =
+      let e : treeIn (take k after) ≡ good (tree n ns es) = rw (wrote-text .0) (read-of-written (wrote-text .1) b) in
+      let fine = then-fine _ (room-fine-iff (length ns) (length nodes) .1 room) ∙
+      holds-fine _ (le-leb (length es) (length pool) more) in
+      both-unique read-apart q (writes-fine (rw e fine) (rw e) (rw e), writes-fine (rw e fine) (rw e) (rw e))
 
 -- ---- after the reader
 
--- what stands in front is the tree that the text holds, and what is behind it is as found
-pub record Reads (s nodes pool : List ℕ) (n m p : ℕ) (nodes′ pool′ : List ℕ) : Type 0 where
-  pub says : treeIn s ≡ good (tree n (take (m * nodeWords) nodes′) (take p pool′))
-  pub nodes-rest : drop (m * nodeWords) nodes′ ≡ drop (m * nodeWords) nodes
-  pub pool-rest : drop p pool′ ≡ drop p pool
+module _ (s : List ℕ) {nodes pool nodes′ pool′ : List ℕ} {n m p : ℕ}
+    (r : TreeRead s nodes pool (read.Tree n m p) nodes′ pool′) where
+  -- what stands in front is the tree that the text holds
+  read-tree : treeIn s ≡ good (tree n (take (m * nodeWords) nodes′) (take p pool′))
+  read-tree = go (treeIn s) refl fine (left-written (r .0) (fine .0)) (left-written (r .1) (fine .0))
+    where
+      fine :
+          (readVerdict (treeIn s) (length nodes) (length pool) ≡ verdict.Fine) × (n ∷ m ∷ p ∷ [] ≡ valuesIn (treeIn s))
+      fine = fine-by (said-by (r .0)) refl
 
--- a tree with its sizes has whole nodes
-whole-nodes : (ws xs : List ℕ) → sizeVerdict ws xs ≡ verdict.Fine → length ws ≡ nodeCount ws * nodeWords
-whole-nodes ws xs e = omega (arith, sizes-fine-iff ws xs .0 e .whole)
-
-module _
-    {s nodes pool nodes′ pool′ : List ℕ} {n m p : ℕ} (r : TreeRead s nodes pool (read.Tree n m p) nodes′ pool′) where
-  reads-by : (a : Reading Tree) → treeIn s ≡ a → Reads s nodes pool n m p nodes′ pool′
-  unfolding readTree readNodes readPool readVerdict verdictOf
-  reads-by (refused why) e = refusal-not-success (sym ((rw e at (r .answers)) ∙ giving-refused {why = why} _ refl))
-  reads-by (good (tree u ws xs)) e =
-      let w =
-      success-giving (roomFor (tree u ws xs) (length nodes) (length pool)) (u ∷ nodeCount ws ∷ length xs ∷ [])
-      (rw e at (r .answers)) in
-      let same : n ≡ u = (let z = w .1 in cc) in
-      let count : m ≡ nodeCount ws = (let z = w .1 in cc) in
-      let total : length xs ≡ p = (let z = w .1 in cc) in
-      let size : length ws ≡ m * nodeWords = rw count (whole-nodes ws xs (spelling-of-read s u ws xs e .sizes)) in
-      let here : nodes′ ≡ written ws nodes = (rw e at (r .leaves-nodes)) ∙ leaving-fine _ _ (w .0) in
-      let there : pool′ ≡ written xs pool = (rw e at (r .leaves-pool)) ∙ leaving-fine _ _ (w .0) in
-      record {
-        says = e ∙ rw (same, here, there, written-front ws nodes _ size, written-front xs pool p total);
-        nodes-rest = rw here (written-behind ws nodes _ size);
-        pool-rest = rw there (written-behind xs pool p total);
-      }
-
-  -- the words in front are those that the text holds, and those behind them are as found
-  pub read-tree : Reads s nodes pool n m p nodes′ pool′
-  read-tree = reads-by (treeIn s) refl
+      go :
+          (a : Reading Tree) → treeIn s ≡ a →
+          (readVerdict a (length nodes) (length pool) ≡ verdict.Fine) × (n ∷ m ∷ p ∷ [] ≡ valuesIn a) →
+          nodes′ ≡ written (nodesIn a) nodes → pool′ ≡ written (poolIn a) pool →
+          treeIn s ≡ good (tree n (take (m * nodeWords) nodes′) (take p pool′))
+      go (refused why) e w x y = refused-not-fine (w .0)
+      go (good (tree u ws xs)) e w x y =
+          let rules : n ≡ u = (let z = w .1 in cc) in
+          let count : m ≡ nodeCount ws = (let z = w .1 in cc) in
+          let total : length xs ≡ p = (let z = w .1 in cc) in
+          let whole = sizes-fine-iff ws xs .0 (spelling-of-read s u ws xs e .sizes) .whole in
+          let size : length ws ≡ m * nodeWords = omega (arith, whole) in
+          e ∙ rw (rules, x, y, written-front ws nodes _ size, written-front xs pool p total)
 
   -- what was read is written back byte for byte
   pub writes-back :
-      (found : List ℕ) → length s ≤ length found →
-      (writeTree n (take (m * nodeWords) nodes′) (take p pool′) (length found) ≡ success (length s ∷ [])) ×
-      (writeTreeBytes n (take (m * nodeWords) nodes′) (take p pool′) found ≡ written s found)
-  unfolding writeTree writeTreeBytes writeVerdict
-  writes-back found room =
-      let ns : List ℕ = take (m * nodeWords) nodes′ in
-      let es : List ℕ = take p pool′ in
-      let says = read-tree .says in
-      let fine : (spellingVerdict n ns es then roomVerdict (length s) (length found)) ≡ verdict.Fine =
-      then-fine _ (fine-of-spelling n ns es (spelling-of-read s n ns es says)) ∙
-      room-fine-iff (length s) (length found) .1 room in
-      rw (written-of-read s n ns es says) (giving-fine _ fine, leaving-fine _ _ fine)
+      {found left : List ℕ} {t : Written} → length s ≤ length found →
+      TreeWritten n (take (m * nodeWords) nodes′) (take p pool′) found t left →
+      (t ≡ Bytes (length s)) × (left ≡ written s found)
+  writes-back room q =
+      let e = written-of-read s _ _ _ read-tree in
+      let fine = fine-of-spelling _ _ _ (spelling-of-read s _ _ _ read-tree) in
+      writes-unique written-apart q (writes-fine (then-fine _ fine ∙ rw e (room-fine-iff _ _ .1 room)) (rw e) (rw e))
 
   -- cut before its end it is refused, with 10 and the number of whole lines left, and nothing is written
   pub cut-short :
-      (u v : List ℕ) → s ≡ u ++ v → (v ≡ [] → ⊥) → (ws xs : List ℕ) →
-      (readTree u (length ws) (length xs) ≡ onPaper (TextStops (length (linesOf (split u))))) ×
-      (readNodes u ws xs ≡ ws) × (readPool u ws xs ≡ xs)
-  cut-short u v e more ws xs =
-      reads-not u ws xs _ (cut-refused u v _ (ap treeIn (sym e) ∙ read-tree .says) more)
+      (u v : List ℕ) → s ≡ u ++ v → (v ≡ [] → ⊥) → {ws xs x y : List ℕ} {t : Read} → TreeRead u ws xs t x y →
+      (t ≡ read.Refused (TextStops (length (linesOf (split u))))) × (x ≡ ws) × (y ≡ xs)
+  cut-short u v e more q =
+      let why = TextStops (length (linesOf (split u))) in
+      let stops = cut-refused u v _ (ap treeIn (sym e) ∙ read-tree) more in
+      both-unique read-apart q (writes-refused {why = why} (rw stops) refl refl, writes-refused {why = why} (rw stops) refl refl)

@@ -17,7 +17,7 @@ use trees::words::NODE_WORDS;
 ghost use mathlib.Core.Path.{_≡_};
 ghost use Rattle.text.specs.Onward.{Stands};
 ghost use Rattle.tree_file.specs.TreeText.{headTest, treeIn};
-ghost use Rattle.tree_file.specs.ReadTree.{TreeRead};
+ghost use Rattle.tree_file.specs.Reading.{TreeRead};
 ghost use Rattle.tree_file.specs.ReadSteps.{Limits, HeadRead, EndRead, PassRead, readOn, begun};
 
 pub enum Read {

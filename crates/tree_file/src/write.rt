@@ -3,6 +3,7 @@ use crate::words::wide;
 use refusals::Refusal;
 use refusals::Verdict;
 use rules::words::MOST_RULES;
+use text::put::Written;
 use text::put::put;
 use text::put::put_bytes;
 use text::put::put_fields;
@@ -32,14 +33,10 @@ ghost use Rattle.trees.specs.Words.{mostNodes};
 ghost use Rattle.text.specs.Words.{newline, cutWord, leafWord, fourTabs};
 ghost use Rattle.text.specs.Line.{printLine};
 ghost use Rattle.text.specs.Puts.{Put};
+ghost use Rattle.text.specs.Said.{Said};
 ghost use Rattle.tree_file.specs.TreeLines.{headLine, endLine, nodeLine, leafMarks, treeText, Spelling};
-ghost use Rattle.tree_file.specs.WriteTree.{spellingVerdict, TreeWritten};
+ghost use Rattle.tree_file.specs.Writing.{spellingVerdict, TreeWritten};
 ghost use Rattle.tree_file.specs.WriteSteps.{Writable};
-
-pub enum Written {
-    Refused(Refusal),
-    Bytes { bytes: usize },
-}
 
 // The file of a tree, there being so many rules, from the front of `text` on; the rest of `text` is as found. A refusal
 // writes nothing: the file is written once into no room, which counts its bytes, then into the whole.
@@ -49,7 +46,7 @@ pub fn tree_write(rules: usize, nodes: &[u32], pool: &[u32], text: &mut [u8]) ->
 {
     match spelling_verdict(rules, nodes, pool) {
         Verdict::Refused(why) => Written::Refused(why),
-        Verdict::Fine => write_fitting(rules, nodes, pool, text),
+        Verdict::Fine => write_whole(rules, nodes, pool, text),
     }
 }
 
@@ -67,9 +64,9 @@ fn spelling_verdict(rules: usize, nodes: &[u32], pool: &[u32]) -> Verdict
 }
 
 // The file, if there is room for it.
-fn write_fitting(rules: usize, nodes: &[u32], pool: &[u32], text: &mut [u8]) -> Written
+fn write_whole(rules: usize, nodes: &[u32], pool: &[u32], text: &mut [u8]) -> Written
     requires { ⌜ Spelling rules (now nodes) (now pool) ⌝ }
-    ensures { λ r. ⌜ TreeWritten rules (now (nodes .entry)) (now (pool .entry)) (now (text .entry)) r
+    ensures { λ r. ⌜ Said (treeText rules (now (nodes .entry)) (now (pool .entry))) (now (text .entry)) r
         (now (text .exit)) ⌝ }
 {
     let needed = write_pass(rules, nodes, pool, &mut text[..0]);

@@ -5,11 +5,10 @@ use crate::say::refused;
 use crate::say::value;
 use rule_file::read::Read as ListRead;
 use rule_file::read::rules_read;
-use rule_file::write::Written as ListWritten;
 use rule_file::write::rules_write;
+use text::put::Written;
 use tree_file::read::Read as TreeRead;
 use tree_file::read::tree_read;
-use tree_file::write::Written as TreeWritten;
 use tree_file::write::tree_write;
 
 // The number of rules of a text.
@@ -29,8 +28,8 @@ pub(crate) fn read_list(example: &[u8], text: &[u8], list: &mut [u32]) {
 pub(crate) fn write_list(example: &[u8], list: &[u32], text: &mut [u8]) {
     begin(example, b"rules_write");
     match rules_write(list, text) {
-        ListWritten::Refused(why) => refused(why),
-        ListWritten::Bytes { bytes } => {
+        Written::Refused(why) => refused(why),
+        Written::Bytes { bytes } => {
             value(0);
             value(bytes as u64);
         }
@@ -63,8 +62,8 @@ pub(crate) fn write_nodes(
 ) {
     begin(example, b"tree_write");
     match tree_write(rules, nodes, pool, text) {
-        TreeWritten::Refused(why) => refused(why),
-        TreeWritten::Bytes { bytes } => {
+        Written::Refused(why) => refused(why),
+        Written::Bytes { bytes } => {
             value(0);
             value(bytes as u64);
         }

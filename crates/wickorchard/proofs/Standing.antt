@@ -1,18 +1,16 @@
 -- What stands in front of lent bytes, and who answers as the list does.
 use Prim.Native.Nat.{ℕ, _≤_}
 use native.Mathlib.Omega.{arith}
-use mathlib.Core.Path.{_≡_, sym, ap, subst, _∙_}
+use mathlib.Core.Path.{_≡_, refl, sym, ap, subst, _∙_}
 use mathlib.Core.List.{List, [], _∷_}
 use mathlib.Core.Option.{Option}
 use lib.ListN.{length, take, drop, length-append}
 use Rattle.facts.specs.Lists.{written}
 use Rattle.facts.proofs.Setting.{written-front}
-use Rattle.refusals.specs.Order.{roomVerdict}
-use Rattle.refusals.proofs.Order.{leaving-fine}
-use Rattle.refusals.proofs.Giving.{success-giving}
-use Rattle.console.specs.declared.say.Replied.{Replied}
-use Rattle.console.specs.declared.say.Replied.the-variants.{Refused, Written}
-use Rattle.console.specs.Lines.{Said}
+use Rattle.refusals.proofs.Promises.{fine-by, said-by, left-written}
+use Rattle.text.specs.declared.put.Written.{Written}
+use Rattle.text.specs.declared.put.Written.the-variants.{Refused, Bytes}
+use Rattle.text.specs.Said.{Said}
 use Rattle.policy.specs.declared.list.Listed.{Listed}
 use Rattle.policy.specs.declared.list.Listed.the-variants.{Words}
 use Rattle.policy.specs.declared.tree.Taken.{Taken}
@@ -35,21 +33,21 @@ front-written bs before {after} {n} e k =
     }
 
 -- what was said stands in front
-pub said-holds : {bs before after : List ℕ} (r : Replied) → Said bs before r after → ReplyInFront bs after r
+pub said-holds : {bs before after : List ℕ} (r : Written) → Said bs before r after → ReplyInFront bs after r
 said-holds (Refused why) s = tt
-said-holds {bs} {before} (Written n) s =
-    let w = success-giving (roomVerdict (length bs) (length before)) (length bs ∷ []) (s .answers) in
+said-holds {bs} {before} (Bytes n) s =
+    let w = fine-by (said-by s) refl in
     let count : n ≡ length bs = (let z = w .1 in cc) in
-    front-written bs before (s .leaves ∙ leaving-fine _ _ (w .0)) count
+    front-written bs before (left-written s (w .0)) count
 
 -- ---- who answers
 
 -- a list that was taken is the list of a file
 pub list-handed :
-    {f : Option (List ℕ)} {before after : List ℕ} {l : Listed} {n : ℕ} → ListTaken f before l after → l ≡ Words n →
+    (f : Option (List ℕ)) {before after : List ℕ} {l : Listed} {n : ℕ} → ListTaken f before l after → l ≡ Words n →
     ListOfFile (take n after) × (n ≤ length after)
-list-handed {f} {before} {after} t e =
-    let w = taken-list (subst (λ (x : Listed). ListTaken f before x after) e t) in ((f, w .0), w .1)
+list-handed f {before} {after} t e =
+    let w = taken-list f (subst (λ (x : Listed). ListTaken f before x after) e t) in ((f, w .0), w .1)
 
 -- whoever serves answers as the list does
 pub serving-handed :

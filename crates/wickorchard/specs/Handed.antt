@@ -13,8 +13,8 @@ use lib.ListN.{length, take}
 use Rattle.refusals.specs.declared.Verdict.the-variants.{Fine}
 use Rattle.rules.specs.Good.{listVerdict}
 use Rattle.text.specs.Text.{good}
-use Rattle.console.specs.declared.say.Replied.{Replied}
-use Rattle.console.specs.declared.say.Replied.the-variants.{Refused, Written}
+use Rattle.text.specs.declared.put.Written.{Written}
+use Rattle.text.specs.declared.put.Written.the-variants.{Refused, Bytes}
 use Rattle.console.specs.Replies.{answerTo}
 use Rattle.policy.specs.Files.{listIn}
 use Rattle.policy.specs.Output.{byList}
@@ -30,6 +30,6 @@ pub record InFront (bs : List ℕ) (n : ℕ) (out : List ℕ) : Type 0 where
   pub within : n ≤ length out
   pub are : take n out ≡ bs
 
-abbrev pub ReplyInFront : List ℕ → List ℕ → Replied → Type 0
+abbrev pub ReplyInFront : List ℕ → List ℕ → Written → Type 0
 ReplyInFront bs out (Refused why) = Unit {0}
-ReplyInFront bs out (Written n) = InFront bs n out
+ReplyInFront bs out (Bytes n) = InFront bs n out

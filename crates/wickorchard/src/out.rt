@@ -2,13 +2,13 @@
 use crate::serve::Turn;
 use console::feed::last_reply;
 use console::gather::Gathering;
-use console::say::Replied;
 use libc::STDOUT_FILENO;
 use policy::line::verdict_line;
 use refusals::Verdict;
+use text::put::Written;
 ghost use Prim.Native.Nat.{_≤_};
 ghost use lib.ListN.{length};
-ghost use Rattle.console.specs.Lines.{Said};
+ghost use Rattle.text.specs.Said.{Said};
 ghost use Rattle.console.specs.Replies.{answerTo};
 ghost use Rattle.console.specs.Gathered.{answers};
 ghost use Rattle.policy.specs.Output.{verdictLine};
@@ -33,33 +33,33 @@ pub(crate) fn say_last(turn: Turn) -> bool {
 }
 
 // What is due at the end of the input, from the front of `out` on: nothing where a reply before it was not written.
-fn last_line(turn: Turn, out: &mut [u8]) -> Replied
+fn last_line(turn: Turn, out: &mut [u8]) -> Written
     ensures { λ r. ⌜ Said (dueAtEnd turn) (now (out .entry)) r (now (out .exit)) ⌝ }
 {
     let from = turn.gathering;
     if !turn.written {
-        return Replied::Written { bytes: 0 };
+        return Written::Bytes { bytes: 0 };
     }
     last_reply(from, out)
 }
 
 // Writes what is due for a verdict.
-fn write_verdict(verdict: Verdict, said: Replied, out: &[u8]) -> bool
+fn write_verdict(verdict: Verdict, said: Written, out: &[u8]) -> bool
     requires { ⌜ ReplyInFront (verdictLine verdict) (now out) said ⌝ }
 {
     match said {
-        Replied::Refused(_) => false,
-        Replied::Written { bytes } => write_front(bytes, out),
+        Written::Refused(_) => false,
+        Written::Bytes { bytes } => write_front(bytes, out),
     }
 }
 
 // Writes what is due at the end of the input.
-fn write_last(turn: Turn, said: Replied, out: &[u8]) -> bool
+fn write_last(turn: Turn, said: Written, out: &[u8]) -> bool
     requires { ⌜ ReplyInFront (dueAtEnd turn) (now out) said ⌝ }
 {
     match said {
-        Replied::Refused(_) => false,
-        Replied::Written { bytes } => write_front(bytes, out),
+        Written::Refused(_) => false,
+        Written::Bytes { bytes } => write_front(bytes, out),
     }
 }
 

@@ -40,19 +40,19 @@ slice-aggregate-answer c = search needs
 array-share-prefix-rules : tie.Need-array-share-prefix-rules
 array-share-prefix-rules c =
     let w = c .before .before .before .before .before in
-    list-handed (w .take-list .ensures) (c .before .before .words .given .1) .1
+    list-handed _ (w .take-list .ensures) (c .before .before .words .given .1) .1
 
 slice-aggregate-answer-2 : tie.Need-slice-aggregate-answer-2
 slice-aggregate-answer-2 c =
     let w = c .before .before .before in
     let v = w .before .before .before in
-    sym (length-take-le _ _ (list-handed (v .take-list .ensures) (w .words .given .1) .1))
+    sym (length-take-le _ _ (list-handed _ (v .take-list .ensures) (w .words .given .1) .1))
 
 answer-requires : tie.Need-answer-requires
 answer-requires c κs =
     let w = c .before .before .before in
     let v = w .before .before .before in
-    (list-handed (v .take-list .ensures) (w .words .given .1) .0, omega arith)
+    (list-handed _ (v .take-list .ensures) (w .words .given .1) .0, omega arith)
 
 returns : tie.Need-returns
 returns c = search needs

@@ -1,6 +1,6 @@
 -- `console::feed::last_reply` meets its contract: whether a line is begun decides. Assumes nothing.
 use borrow.Author.Needs.{needs}
-use Rattle.console.proofs.Saying.{said-nothing, said-same}
+use Rattle.text.proofs.Said.{said-nothing, said-same}
 use Rattle.console.proofs.Gathering.{last-none, last-part}
 use Rattle.console.proofs.feed.last_reply.Statement.{statement}
 use Rattle.console.proofs.feed.last_reply.Tie as tie

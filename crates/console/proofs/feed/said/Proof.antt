@@ -1,6 +1,6 @@
 -- `console::feed::said` meets its contract: the byte decides. Assumes nothing.
 use borrow.Author.Needs.{needs}
-use Rattle.console.proofs.Saying.{said-nothing, said-same}
+use Rattle.text.proofs.Said.{said-nothing, said-same}
 use Rattle.console.proofs.Gathering.{said-none, said-line}
 use Rattle.console.proofs.feed.said.Statement.{statement}
 use Rattle.console.proofs.feed.said.Tie as tie

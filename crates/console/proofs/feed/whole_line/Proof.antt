@@ -5,7 +5,7 @@ use lib.Seq.{length-take-le}
 use borrow.Author.Needs.{needs}
 use Rattle.console.specs.Lines.{refusedLine}
 use Rattle.console.specs.Gathered.{gathering}
-use Rattle.console.proofs.Saying.{said-same}
+use Rattle.text.proofs.Said.{said-same}
 use Rattle.console.proofs.Gathering.{reply-over, reply-held}
 use Rattle.console.proofs.feed.whole_line.Statement.{statement}
 use Rattle.console.proofs.feed.whole_line.Tie as tie

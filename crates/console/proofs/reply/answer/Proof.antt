@@ -4,7 +4,7 @@ use mathlib.Core.Path.{sym}
 use lib.Seq.{length-take-le}
 use borrow.Author.Needs.{needs}
 use Rattle.console.specs.Replies.{answerTo}
-use Rattle.console.proofs.Saying.{said-same}
+use Rattle.text.proofs.Said.{said-same}
 use Rattle.console.proofs.Searching.{found-refused, found-fits, found-hit}
 use Rattle.console.proofs.reply.answer.Statement.{statement}
 use Rattle.console.proofs.reply.answer.Tie as tie

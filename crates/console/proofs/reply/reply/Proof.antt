@@ -3,7 +3,7 @@ use mathlib.Core.Path.{refl, ap, _∙_}
 use borrow.Author.Needs.{needs}
 use Rattle.facts.proofs.Bools.{held, failed}
 use Rattle.console.specs.Lines.{refusedLine}
-use Rattle.console.proofs.Saying.{said-same}
+use Rattle.text.proofs.Said.{said-same}
 use Rattle.console.proofs.Replying.{none-asked, one-asked}
 use Rattle.console.proofs.reply.reply.Statement.{statement}
 use Rattle.console.proofs.reply.reply.Tie as tie

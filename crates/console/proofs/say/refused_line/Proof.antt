@@ -1,10 +1,8 @@
 -- `console::say::refused_line` meets its contract: it is counted, then the room decides, then it is put.
 -- Assumes nothing.
 use native.Mathlib.Omega.{arith}
-use denote.Ref.{now}
 use borrow.Author.Needs.{needs}
-use Rattle.facts.proofs.Setting.{none-before}
-use Rattle.console.proofs.Saying.{said-short, said-written}
+use Rattle.text.proofs.Said.{said-short, said-put}
 use Rattle.console.proofs.say.refused_line.Statement.{statement}
 use Rattle.console.proofs.say.refused_line.Tie as tie
 
@@ -23,9 +21,8 @@ same-length c = search needs
 returns : tie.Need-returns
 returns c =
     let p = c .before .before .before in
-    let w = p .before .before .before in
-    let found = none-before (p .put-refused .last .1 .0) (now (w .args .out)) (p .put-refused .kept .1 .0) in
-    said-short (omega (arith, p .put-refused .ensures .1)) found (p .put-refused .ensures .0) (c .if1 .taken)
+    said-short (omega (arith, p .put-refused .ensures .1)) (p .put-refused .ensures .0) (p .put-refused .kept .1 .0)
+    (c .if1 .taken)
 
 put-refused-requires-2 : tie.Need-put-refused-requires-2
 put-refused-requires-2 c κs = search needs
@@ -37,9 +34,7 @@ returns-2 : tie.Need-returns-2
 returns-2 c =
     let q = c .before .before in
     let p = q .before .before .before .before .before in
-    let w = p .before .before .before in
-    let found = none-before (p .put-refused .last .1 .0) (now (w .args .out)) (p .put-refused .kept .1 .0) in
-    said-written (omega (arith, p .put-refused .ensures .1)) found (p .put-refused .ensures .0)
+    said-put (omega (arith, p .put-refused .ensures .1)) (p .put-refused .ensures .0) (p .put-refused .kept .1 .0)
     (q .before .before .if1 .left) (q .put-refused2 .ensures .0)
 
 pub refused-line-spec : {M : Type 1} → statement M

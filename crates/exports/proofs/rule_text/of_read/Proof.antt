@@ -3,7 +3,7 @@ use mathlib.Core.Path.{sym, ap, _∙_}
 use borrow.Author.Needs.{needs}
 use Rattle.exports.specs.Answers.{plainly, inWords}
 use Rattle.rule_file.specs.declared.read.Read.{Read}
-use Rattle.rule_file.specs.ReadRules.{paper}
+use Rattle.rule_file.specs.Reading.{paper}
 use Rattle.exports.proofs.rule_text.of_read.Statement.{statement}
 use Rattle.exports.proofs.rule_text.of_read.Tie as tie
 

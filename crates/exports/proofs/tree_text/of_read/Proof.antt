@@ -3,7 +3,7 @@ use mathlib.Core.Path.{sym, ap, _∙_}
 use borrow.Author.Needs.{needs}
 use Rattle.exports.specs.Answers.{plainly, inWords}
 use Rattle.tree_file.specs.declared.read.Read.{Read}
-use Rattle.tree_file.specs.ReadTree.{paper}
+use Rattle.tree_file.specs.Reading.{paper}
 use Rattle.exports.proofs.tree_text.of_read.Statement.{statement}
 use Rattle.exports.proofs.tree_text.of_read.Tie as tie
 

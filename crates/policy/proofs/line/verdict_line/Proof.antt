@@ -1,7 +1,7 @@
 -- `policy::line::verdict_line` meets its contract: a verdict that is fine has no line. Assumes nothing.
 use mathlib.Core.Path.{sym, ap}
 use borrow.Author.Needs.{needs}
-use Rattle.console.proofs.Saying.{said-nothing, said-same}
+use Rattle.text.proofs.Said.{said-nothing, said-same}
 use Rattle.policy.specs.Output.{verdictLine}
 use Rattle.policy.proofs.line.verdict_line.Statement.{statement}
 use Rattle.policy.proofs.line.verdict_line.Tie as tie

@@ -17,20 +17,22 @@ enum-known-count c = search needs
 mul-t9 : tie.Need-mul-t9
 mul-t9 c =
     let w = c .before .before .before .before .before in
-    let fits = list-within (w .rules-read .ensures) (c .before .count .given .1) in
+    let fits = list-within _ (w .rules-read .ensures) (c .before .count .given .1) in
     omega (arith, fits)
 
 same-length : tie.Need-same-length
 same-length c = search needs
 
 returns : tie.Need-returns
-returns c = list-refused (c .before .before .before .before .before .rules-read .ensures) (c .before .why .given .1)
+returns c = list-refused _ (c .before .before .before .before .before .rules-read .ensures) (c .before .why .given .1)
 
 same-length-2 : tie.Need-same-length-2
 same-length-2 c = search needs
 
 returns-2 : tie.Need-returns-2
-returns-2 c = list-found (c .before .before .before .before .before .rules-read .ensures) (c .before .count .given .1)
+returns-2 c =
+    let w = c .before .before .before .before .before in
+    list-found _ (w .rules-read .ensures) (c .before .count .given .1)
 
 pub list-of-spec : {M : Type 1} → statement M
 list-of-spec =

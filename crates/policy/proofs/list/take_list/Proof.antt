@@ -23,7 +23,7 @@ list-of-requires c κs = search needs
 returns : tie.Need-returns
 returns c =
     let w = c .before .before .before .before in
-    list-by (text-none (w .args .buffer .now) (c .enum-told .given .1)) (list-not-read _)
+    list-by _ _ (text-none (w .args .buffer .now) (c .enum-told .given .1)) (list-not-read _)
 
 same-length : tie.Need-same-length
 same-length c = search needs
@@ -33,7 +33,7 @@ returns-2 c =
     let w = c .before .before .before .before .before in
     let v = w .before .before in
     let u = v .before .before .before .before in
-    list-by (text-some (u .args .buffer .now) (v .file .given .1) (w .within .ensures))
+    list-by _ _ (text-some (u .args .buffer .now) (v .file .given .1) (w .within .ensures))
     (c .before .before .list-of .ensures)
 
 pub take-list-spec : {M : Type 1} → statement M

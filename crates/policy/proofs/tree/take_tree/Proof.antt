@@ -23,7 +23,7 @@ tree-of-requires c κs = search needs
 returns : tie.Need-returns
 returns c =
     let w = c .before .before .before .before .before in
-    tree-by (text-none (w .args .buffer .now) (c .enum-told .given .1)) (tree-not-read _ _)
+    tree-by _ _ (text-none (w .args .buffer .now) (c .enum-told .given .1)) (tree-not-read _ _)
 
 same-length : tie.Need-same-length
 same-length c = search needs
@@ -37,7 +37,7 @@ returns-2 c =
     let v = w .before .before .before .before in
     let u = v .before .before in
     let t = u .before .before .before .before .before in
-    tree-by (text-some (t .args .buffer .now) (u .file .given .1) (v .within .ensures)) (w .tree-of .ensures)
+    tree-by _ _ (text-some (t .args .buffer .now) (u .file .given .1) (v .within .ensures)) (w .tree-of .ensures)
 
 pub take-tree-spec : {M : Type 1} → statement M
 take-tree-spec =

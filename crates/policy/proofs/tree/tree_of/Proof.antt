@@ -17,7 +17,7 @@ enum-known-count c = search needs
 mul-t13 : tie.Need-mul-t13
 mul-t13 c =
     let w = c .before .before .before .before .before .before .before in
-    let fits = tree-within (w .tree-read .ensures) (c .before .count .given .1) in
+    let fits = tree-within _ (w .tree-read .ensures) (c .before .count .given .1) in
     omega (arith, fits)
 
 same-length : tie.Need-same-length
@@ -29,7 +29,7 @@ same-length-2 c = search needs
 returns : tie.Need-returns
 returns c =
     let w = c .before .before .before .before .before .before .before in
-    tree-refused (w .tree-read .ensures) (c .before .why .given .1)
+    tree-refused _ (w .tree-read .ensures) (c .before .why .given .1)
 
 same-length-3 : tie.Need-same-length-3
 same-length-3 c = search needs
@@ -40,7 +40,7 @@ same-length-4 c = search needs
 returns-2 : tie.Need-returns-2
 returns-2 c =
     let w = c .before .before .before .before .before .before .before in
-    tree-found (w .tree-read .ensures) (c .before .count .given .1)
+    tree-found _ (w .tree-read .ensures) (c .before .count .given .1)
 
 pub tree-of-spec : {M : Type 1} → statement M
 tree-of-spec =

@@ -5,7 +5,6 @@ use mathlib.Core.Path.{refl, subst}
 use lib.ListN.{take}
 use denote.Ref.{now}
 use borrow.Author.Needs.{needs}
-use Rattle.facts.proofs.Setting.{none-before}
 use Rattle.rule_file.specs.RuleText.{rulesIn}
 use Rattle.rule_file.specs.ReadSteps.{PassIs}
 use Rattle.rule_file.proofs.ReadAnswers.{text-refused, room-refused, read-again}
@@ -43,8 +42,8 @@ returns c =
     let p = c .before .before .before .before .before .before in
     let w = p .before .before .before .before in
     let Is = PassIs (rulesIn (now (w .args .text))) (take 0 (now (w .args .rules))) _ in
-    let found = none-before (p .read-pass .last .1 .0) (now (w .args .rules)) (p .read-pass .kept .1 .0) in
-    room-refused found (subst Is (c .before .before .count .given .1) (p .read-pass .ensures)) refl (c .if1 .taken)
+    let first = subst Is (c .before .before .count .given .1) (p .read-pass .ensures) in
+    room-refused _ (p .read-pass .last .1 .0) (p .read-pass .kept .1 .0) first refl (c .if1 .taken)
 
 read-pass-requires-2 : tie.Need-read-pass-requires-2
 read-pass-requires-2 c κs = search needs
@@ -57,8 +56,8 @@ returns-2 c =
     let p = c .before .before .before .before .before in
     let w = p .before .before .before .before in
     let Is = PassIs (rulesIn (now (w .args .text))) (take 0 (now (w .args .rules))) _ in
-    let found = none-before (p .read-pass .last .1 .0) (now (w .args .rules)) (p .read-pass .kept .1 .0) in
-    text-refused found (subst Is (c .before .why .given .1) (p .read-pass .ensures))
+    text-refused _ (p .read-pass .last .1 .0) (p .read-pass .kept .1 .0)
+    (subst Is (c .before .why .given .1) (p .read-pass .ensures))
 
 same-length-3 : tie.Need-same-length-3
 same-length-3 c = search needs
@@ -70,9 +69,9 @@ returns-3 c =
     let p = m .before .before .before .before in
     let w = p .before .before .before .before in
     let Is = PassIs (rulesIn (now (w .args .text))) (take 0 (now (w .args .rules))) _ in
-    let found = none-before (p .read-pass .last .1 .0) (now (w .args .rules)) (p .read-pass .kept .1 .0) in
     let first = subst Is (m .count .given .1) (p .read-pass .ensures) in
-    read-again _ found first (q .before .before .if1 .left) (q .read-pass2 .ensures)
+    read-again _ (p .read-pass .last .1 .0) (p .read-pass .kept .1 .0) first _ (q .before .before .if1 .left)
+    (q .read-pass2 .ensures)
 
 pub rules-read-spec : {M : Type 1} → statement M
 rules-read-spec =

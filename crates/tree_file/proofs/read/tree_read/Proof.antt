@@ -1,11 +1,11 @@
 -- `tree_file::read::tree_read` meets its contract: the first pass judges and counts, and the second stores.
 -- Assumes nothing.
 use native.Mathlib.Omega.{arith}
-use mathlib.Core.Path.{subst}
+use mathlib.Core.Path.{refl, subst}
 use borrow.Author.Needs.{needs}
 use Rattle.tree_file.specs.ReadSteps.{PassRead}
-use Rattle.tree_file.proofs.Answers.{stored-of, stored-few}
-use Rattle.tree_file.proofs.Told.{told-refused, told-nodes, told-pool, told-stored}
+use Rattle.tree_file.proofs.ReadAnswers.{stored-of, stored-few, text-refused}
+use Rattle.tree_file.proofs.ReadAnswers.{nodes-refused, pool-refused, read-again}
 use Rattle.tree_file.proofs.read.tree_read.Statement.{statement}
 use Rattle.tree_file.proofs.read.tree_read.Tie as tie
 
@@ -45,9 +45,9 @@ same-length-2 c = search needs
 returns : tie.Need-returns
 returns c =
     let w = c .before .before .before .before .before .before .before .before in
-    told-nodes _ _ _ (w .read-pass .last .1 .0) (w .read-pass .last .1 .1 .0) (w .read-pass .kept .1 .0)
-    (w .read-pass .kept .1 .1 .0)
-    (subst (PassRead _ _ _ _ _) (c .before .before .count .given .1) (w .read-pass .ensures)) (c .if1 .taken)
+    let first = stored-of (subst (PassRead _ _ _ _ _) (c .before .before .count .given .1) (w .read-pass .ensures)) in
+    nodes-refused _ _ _ (w .read-pass .last .1 .0) (w .read-pass .last .1 .1 .0) (w .read-pass .kept .1 .0)
+    (w .read-pass .kept .1 .1 .0) first refl (c .if1 .taken)
 
 same-length-3 : tie.Need-same-length-3
 same-length-3 c = search needs
@@ -58,10 +58,10 @@ same-length-4 c = search needs
 returns-2 : tie.Need-returns-2
 returns-2 c =
     let w = c .before .before .before .before .before .before .before .before .before in
-    told-pool _ _ _ (w .read-pass .last .1 .0) (w .read-pass .last .1 .1 .0) (w .read-pass .kept .1 .0)
-    (w .read-pass .kept .1 .1 .0)
-    (subst (PassRead _ _ _ _ _) (c .before .before .before .count .given .1) (w .read-pass .ensures))
-    (c .before .if1 .left) (c .if2 .taken)
+    let m = c .before .before .before in
+    let first = stored-of (subst (PassRead _ _ _ _ _) (m .count .given .1) (w .read-pass .ensures)) in
+    pool-refused _ _ _ (w .read-pass .last .1 .0) (w .read-pass .last .1 .1 .0) (w .read-pass .kept .1 .0)
+    (w .read-pass .kept .1 .1 .0) first (c .before .if1 .left) (c .if2 .taken)
 
 read-pass-requires-2 : tie.Need-read-pass-requires-2
 read-pass-requires-2 c κs = search needs
@@ -75,7 +75,7 @@ same-length-6 c = search needs
 returns-3 : tie.Need-returns-3
 returns-3 c =
     let w = c .before .before .before .before .before .before .before in
-    told-refused _ _ _ (w .read-pass .last .1 .0) (w .read-pass .last .1 .1 .0) (w .read-pass .kept .1 .0)
+    text-refused _ _ _ (w .read-pass .last .1 .0) (w .read-pass .last .1 .1 .0) (w .read-pass .kept .1 .0)
     (w .read-pass .kept .1 .1 .0)
     (subst (PassRead _ _ _ _ _) (c .before .why .given .1) (w .read-pass .ensures))
 
@@ -90,10 +90,10 @@ returns-4 c =
     let again = c .before .before .before .before in
     let room = again .before .before .before in
     let w = room .before .before .before .before .before .before .before .before .before in
-    told-stored _ _ _ (w .read-pass .last .1 .0) (w .read-pass .last .1 .1 .0) (w .read-pass .kept .1 .0)
-    (w .read-pass .kept .1 .1 .0)
-    (subst (PassRead _ _ _ _ _) (room .before .before .before .count .given .1) (w .read-pass .ensures))
-    (room .before .if1 .left) (room .if2 .left) (again .read-pass2 .ensures)
+    let m = room .before .before .before in
+    let first = stored-of (subst (PassRead _ _ _ _ _) (m .count .given .1) (w .read-pass .ensures)) in
+    read-again _ _ _ (w .read-pass .last .1 .0) (w .read-pass .last .1 .1 .0) (w .read-pass .kept .1 .0)
+    (w .read-pass .kept .1 .1 .0) first (room .before .if1 .left) (room .if2 .left) (again .read-pass2 .ensures)
 
 pub tree-read-spec : {M : Type 1} → statement M
 tree-read-spec =

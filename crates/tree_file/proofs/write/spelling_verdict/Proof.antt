@@ -2,7 +2,7 @@
 -- Assumes nothing.
 use mathlib.Core.Path.{sym, _∙_}
 use borrow.Author.Needs.{needs}
-use Rattle.tree_file.proofs.Written.{many-rules, sizes-refuse, spelt-decides}
+use Rattle.tree_file.proofs.SpellingVerdict.{many-rules, sizes-refuse, spelt-decides}
 use Rattle.tree_file.proofs.write.spelling_verdict.Statement.{statement}
 use Rattle.tree_file.proofs.write.spelling_verdict.Tie as tie
 

@@ -1,7 +1,9 @@
 -- `tree_file::write::tree_write` meets its contract: a tree that is not refused is spelt. Assumes nothing.
-use mathlib.Core.Path.{sym, _∙_}
+use mathlib.Core.Path.{refl, sym, _∙_}
 use borrow.Author.Needs.{needs}
-use Rattle.tree_file.proofs.Written.{spelling-of-fine, written-refused}
+use Rattle.refusals.proofs.Order.{then-refused}
+use Rattle.refusals.proofs.Promises.{writes-refused, writes-after}
+use Rattle.tree_file.proofs.SpellingVerdict.{spelling-of-fine}
 use Rattle.tree_file.proofs.write.tree_write.Statement.{statement}
 use Rattle.tree_file.proofs.write.tree_write.Tie as tie
 
@@ -14,19 +16,24 @@ enum-known-why c = search needs
 enum-told : tie.Need-enum-told
 enum-told c = search needs
 
-write-fitting-requires : tie.Need-write-fitting-requires
-write-fitting-requires c κs =
+write-whole-requires : tie.Need-write-whole-requires
+write-whole-requires c κs =
     spelling-of-fine _ _ _ (sym (c .before .before .before .spelling-verdict .ensures) ∙ c .before .enum-told .given .1)
 
 returns : tie.Need-returns
 returns c =
-    written-refused _ _ _ _ (sym (c .before .before .before .spelling-verdict .ensures) ∙ c .before .why .given .1)
+    let tree = sym (c .before .before .before .spelling-verdict .ensures) ∙ c .before .why .given .1 in
+    writes-refused (then-refused _ tree) refl refl
 
 same-length : tie.Need-same-length
 same-length c = search needs
 
 returns-2 : tie.Need-returns-2
-returns-2 c = c .before .before .write-fitting .ensures
+returns-2 c =
+    let w = c .before .before in
+    let told = w .before .before in
+    let tree = sym (told .before .before .spelling-verdict .ensures) ∙ told .enum-told .given .1 in
+    writes-after tree (w .write-whole .ensures)
 
 pub tree-write-spec : {M : Type 1} → statement M
 tree-write-spec =
@@ -35,7 +42,7 @@ tree-write-spec =
     spelling-verdict-requires
     enum-known-why
     enum-told
-    write-fitting-requires
+    write-whole-requires
     returns
     same-length
     returns-2)

@@ -1,7 +1,7 @@
 -- `wickorchard::out::last_line` meets its contract: whether all replies were written decides. Assumes nothing.
 use borrow.Author.Tests.{not-true, not-false}
 use borrow.Author.Needs.{needs}
-use Rattle.console.proofs.Saying.{said-nothing, said-same}
+use Rattle.text.proofs.Said.{said-nothing, said-same}
 use Rattle.wickorchard.proofs.Turning.{last-unwritten, last-written}
 use Rattle.wickorchard.proofs.out.last_line.Statement.{statement}
 use Rattle.wickorchard.proofs.out.last_line.Tie as tie

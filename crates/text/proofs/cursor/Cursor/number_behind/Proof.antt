@@ -1,5 +1,4 @@
 -- `text::cursor::Cursor::number_behind` meets its contract: the separator's test, then the number. Assumes nothing.
-use native.Mathlib.Omega.{arith}
 use mathlib.Core.Path.{sym, ap, _∙_}
 use borrow.Author.Needs.{needs}
 use Rattle.text.specs.Cursors.{onNumber, numberAt, behindAt}

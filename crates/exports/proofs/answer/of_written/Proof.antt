@@ -1,11 +1,11 @@
--- `exports::rule_text::of_written` meets its contract: each case of the answer, as eight words. Assumes nothing.
+-- `exports::answer::of_written` meets its contract: each case of the answer, as eight words. Assumes nothing.
 use mathlib.Core.Path.{sym, ap, _∙_}
 use borrow.Author.Needs.{needs}
 use Rattle.exports.specs.Answers.{plainly, inWords}
-use Rattle.rule_file.specs.declared.write.Written.{Written}
-use Rattle.rule_file.specs.WriteRules.{paper}
-use Rattle.exports.proofs.rule_text.of_written.Statement.{statement}
-use Rattle.exports.proofs.rule_text.of_written.Tie as tie
+use Rattle.text.specs.declared.put.Written.{Written}
+use Rattle.text.specs.Said.{paper}
+use Rattle.exports.proofs.answer.of_written.Statement.{statement}
+use Rattle.exports.proofs.answer.of_written.Tie as tie
 
 enum-known-said : tie.Need-enum-known-said
 enum-known-said c = search needs

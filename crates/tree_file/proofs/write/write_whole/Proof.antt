@@ -1,23 +1,24 @@
--- `tree_file::write::write_fitting` meets its contract: the first pass counts, and the second writes. Assumes nothing.
+-- `tree_file::write::write_whole` meets its contract: the first pass counts, and the second writes. Assumes nothing.
 use Prim.Native.Nat.{_<_, _^_}
 use native.Mathlib.Omega.{arith}
 use lib.ListN.{length}
 use borrow.Author.Needs.{needs}
 use Rattle.tree_file.specs.TreeLines.{treeText}
-use Rattle.tree_file.proofs.Fits.{text-fits}
 use Rattle.text.proofs.Below.{below-of}
-use Rattle.tree_file.proofs.Written.{written-short, written-all}
-use Rattle.tree_file.proofs.write.write_fitting.Statement.{statement}
-use Rattle.tree_file.proofs.write.write_fitting.Tie as tie
+use Rattle.text.proofs.Said.{said-short, said-put}
+use Rattle.tree_file.proofs.Fits.{text-fits}
+use Rattle.tree_file.proofs.write.write_whole.Statement.{statement}
+use Rattle.tree_file.proofs.write.write_whole.Tie as tie
 
 -- the words of the nodes are of 32 bits, so that the text is short enough
 fits :
     (c : tie.After-shared-slice-known) →
     let s = c .before .args in
-    length (treeText (s .rules) (s .nodes .now) (s .pool .now)) < 2 ^ 63
+    length (treeText (s .rules) (s .nodes .now) (s .pool .now)) < 2 ^ 64
 fits c =
-    text-fits (c .before .pre)
-    (below-of (2 ^ 32) (c .before .args .nodes .now) (λ i b. omega (arith, c .shared-slice-known .given i)))
+    let nodes = c .before .args .nodes .now in
+    let below = below-of (2 ^ 32) nodes (λ i b. omega (arith, c .shared-slice-known .given i)) in
+    omega (arith, text-fits (c .before .pre) below)
 
 slice-relend-prefix-write-pass : tie.Need-slice-relend-prefix-write-pass
 slice-relend-prefix-write-pass c = search needs
@@ -35,8 +36,7 @@ returns : tie.Need-returns
 returns c =
     let w = c .before .before .before in
     let s = w .before .before .before .before in
-    written-short _ _ _ (s .before .pre) (fits s) _ (w .write-pass .ensures) (w .write-pass .kept .1 .1 .1 .0)
-    (c .if1 .taken)
+    said-short (fits s) (w .write-pass .ensures) (w .write-pass .kept .1 .1 .1 .0) (c .if1 .taken)
 
 write-pass-requires-2 : tie.Need-write-pass-requires-2
 write-pass-requires-2 c κs = c .before .before .before .before .before .before .before .before .before .pre
@@ -49,11 +49,11 @@ returns-2 c =
     let again = c .before .before in
     let w = again .before .before .before .before .before in
     let s = w .before .before .before .before in
-    written-all _ _ _ (s .before .pre) (fits s) _ (w .write-pass .ensures) (w .write-pass .kept .1 .1 .1 .0)
-    (again .before .before .if1 .left) (again .write-pass2 .ensures)
+    said-put (fits s) (w .write-pass .ensures) (w .write-pass .kept .1 .1 .1 .0) (again .before .before .if1 .left)
+    (again .write-pass2 .ensures)
 
-pub write-fitting-spec : {M : Type 1} → statement M
-write-fitting-spec =
+pub write-whole-spec : {M : Type 1} → statement M
+write-whole-spec =
     tie.close
     (tie.spec
     slice-relend-prefix-write-pass

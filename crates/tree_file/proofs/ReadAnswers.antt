@@ -1,0 +1,117 @@
+-- From passes over a text to what the reader answers: the first, on no room, judges and counts; the second stores.
+use Prim.Native.Nat.{ℕ, _*_, _≤_, _<_}
+use native.Mathlib.Omega.{arith}
+use mathlib.Core.Path.{_≡_, refl, sym, ap, _∙_}
+use mathlib.Core.List.{List, _++_}
+use lib.ListN.{length}
+use lib.Seq.{sets}
+use borrow.Author.Tests.{le-leb, lt-leb}
+use Rattle.facts.proofs.Setting.{none-before}
+use Rattle.refusals.specs.declared.Refusal.{Refusal}
+use Rattle.refusals.specs.declared.Refusal.the-variants.{OutputShort}
+use Rattle.refusals.specs.declared.Verdict.the-variants as verdict
+use Rattle.refusals.specs.Order.{roomVerdict}
+use Rattle.refusals.specs.Promises.{Apart}
+use Rattle.refusals.proofs.Order.{holds-fine, fails-refused, then-fine, then-refused, room-short, room-fine-iff}
+use Rattle.refusals.proofs.Unique.{on-paper-unique, refusal-not-success}
+use Rattle.refusals.proofs.Promises.{writes-refused, writes-fine}
+use Rattle.trees.specs.Words.{nodeWords, nodeCount, mostNodes, mostPool}
+use Rattle.text.specs.Text.{Reading, good}
+use Rattle.text.proofs.Runs.{refused-good}
+use Rattle.text.proofs.Said.{in-front}
+use Rattle.tree_file.specs.declared.read.Read.{Read}
+use Rattle.tree_file.specs.declared.read.Read.the-variants.{Refused, Tree}
+use Rattle.tree_file.specs.TreeText.{tree, treeIn}
+use Rattle.tree_file.specs.Reading.{paper, roomFor, readVerdict, TreeRead}
+use Rattle.tree_file.specs.ReadSteps.{Stored, PassRead}
+use Rattle.tree_file.proofs.Spelling.{few-nodes, sizes-of}
+use Rattle.tree_file.proofs.RoundTrips.{spelling-of-read}
+
+-- the paper tells the answers apart
+pub read-apart : Apart paper
+read-apart (Refused a) (Refused b) e = ap Refused (on-paper-unique a b e)
+read-apart (Refused a) (Tree n m p) e = refusal-not-success e
+read-apart (Tree n m p) (Refused b) e = refusal-not-success (sym e)
+read-apart (Tree n m p) (Tree n′ m′ p′) e = cc
+
+-- what a pass that stored tells
+pub stored-of :
+    {a : Reading _} {nodes pool nodes′ pool′ : List ℕ} {n m p : ℕ} → PassRead a nodes pool nodes′ pool′ (Tree n m p) →
+    Stored a nodes pool nodes′ pool′ n m p
+stored-of (PassRead.stores w) = w
+
+-- the counts of a text that reads well obey the limits
+pub stored-few :
+    (s : List ℕ) {nodes pool nodes′ pool′ : List ℕ} {n m p : ℕ} → Stored (treeIn s) nodes pool nodes′ pool′ n m p →
+    (m ≤ mostNodes) × (p ≤ mostPool)
+stored-few s {n = n} w =
+    let g = spelling-of-read s n (w .words) (w .entries) (w .says) in
+    (omega (arith, few-nodes g, w .size), omega (arith, sizes-of g .short-pool, w .total))
+
+module _ (s nodes pool kept kept′ : List ℕ) (none : length kept ≡ 0) (none′ : length kept′ ≡ 0) where
+  same : kept ++ nodes ≡ nodes
+  same = none-before kept nodes none
+
+  also : kept′ ++ pool ≡ pool
+  also = none-before kept′ pool none′
+
+  -- a refusal is the answer, and the words are as found
+  refused-so :
+      {why : Refusal} → readVerdict (treeIn s) (length nodes) (length pool) ≡ verdict.Refused why →
+      TreeRead s nodes pool (Refused why) (kept ++ nodes) (kept′ ++ pool)
+  refused-so e = (writes-refused e refl same, writes-refused e refl also)
+
+  -- a text that is refused is refused by the reader
+  pub text-refused :
+      {why : Refusal} {a b c d : List ℕ} → PassRead (treeIn s) a b c d (Refused why) →
+      TreeRead s nodes pool (Refused why) (kept ++ nodes) (kept′ ++ pool)
+  text-refused (PassRead.refuses e) = refused-so (rw e)
+
+  module _ {a b : List ℕ} {n m p : ℕ} (w : Stored (treeIn s) a b kept kept′ n m p) where
+    -- nodes for which there is no room are refused with their words
+    pub nodes-refused :
+        {needed : ℕ} → needed ≡ m * nodeWords → length (kept ++ nodes) < needed →
+        TreeRead s nodes pool (Refused (OutputShort needed 0)) (kept ++ nodes) (kept′ ++ pool)
+    unfolding roomFor
+    nodes-refused e l =
+        let short = room-short (length (w .words)) (length nodes) (e ∙ sym (w .size)) (rw same at l) in
+        refused-so (rw (w .says) (then-refused _ (sym short)))
+
+    module _ (l : m * nodeWords ≤ length (kept ++ nodes)) where
+      there : roomVerdict (length (w .words)) (length nodes) ≡ verdict.Fine
+      there = room-fine-iff (length (w .words)) (length nodes) .1 (omega (arith, w .size, ap length same))
+
+      -- then a pool for which there is no room
+      pub pool-refused :
+          length (kept′ ++ pool) < p →
+          TreeRead s nodes pool (Refused (OutputShort p 1)) (kept ++ nodes) (kept′ ++ pool)
+      unfolding roomFor
+      pool-refused h =
+          let short = lt-leb (length (w .entries)) (length pool) (omega (arith, w .total, ap length also)) in
+          refused-so (rw (w .says, ← w .total) (then-fine _ there ∙ fails-refused _ short))
+
+      module _ (h : p ≤ length (kept′ ++ pool)) where
+        fine : readVerdict (treeIn s) (length nodes) (length pool) ≡ verdict.Fine
+        unfolding roomFor
+        fine =
+            let enough = le-leb (length (w .entries)) (length pool) (omega (arith, w .total, ap length also)) in
+            rw (w .says) (then-fine _ there ∙ holds-fine _ enough)
+
+        -- with room for both, the second pass is what the reader answers
+        pub read-again :
+            {r : Read} {nodes′ pool′ : List ℕ} → PassRead (treeIn s) (kept ++ nodes) (kept′ ++ pool) nodes′ pool′ r →
+            TreeRead s nodes pool r nodes′ pool′
+        read-again (PassRead.refuses e) = refused-good (sym e ∙ w .says)
+        read-again (PassRead.stores {n = n′} {m = m′} x) =
+            let e : good (tree n (w .words) (w .entries)) ≡ good (tree n′ (x .words) (x .entries)) =
+            sym (w .says) ∙ x .says in
+            let words : length (w .words) ≡ length (x .words) = cc in
+            let entries : length (w .entries) ≡ length (x .entries) = cc in
+            let count : nodeCount (x .words) ≡ m′ = omega (arith, x .size) in
+            let ns = in-front (x .words) nodes (omega (arith, w .size, ap length same)) in
+            let es = in-front (x .entries) pool (omega (arith, w .total, ap length also)) in (
+              writes-fine fine (rw (x .says, count, x .total))
+                  (x .nodes-are ∙ ap (λ (l : List ℕ). sets l 0 (x .words)) same ∙ ns ∙ rw (x .says)),
+              writes-fine fine (rw (x .says, count, x .total))
+                  (x .pool-is ∙ ap (λ (l : List ℕ). sets l 0 (x .entries)) also ∙ es ∙ rw (x .says)),
+            )

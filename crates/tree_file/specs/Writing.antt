@@ -1,0 +1,30 @@
+-- Writing a tree file. Definitions only.
+--   spellingVerdict n nodes pool    1 where there are more than the most rules, then 5, then *spelt*: 6 and 7
+--   writeVerdict                    the same, then 4 where the room is less than the bytes of the text
+--   TreeWritten                     the promise: the text of the tree stands in front, or it is refused
+use Prim.Native.Nat.{ℕ}
+use mathlib.Core.List.{List, [], _∷_}
+use lib.ListN.{length}
+use lib.Dec.{leb}
+use Rattle.refusals.specs.declared.Refusal.the-variants.{RuleWordsWrong}
+use Rattle.refusals.specs.declared.Verdict.{Verdict}
+use Rattle.refusals.specs.Order.{refuseUnless, roomVerdict, _then_}
+use Rattle.refusals.specs.Promises.{Writes}
+use Rattle.rules.specs.Words.{mostRules}
+use Rattle.trees.specs.Words.{sizeVerdict}
+use Rattle.trees.specs.Spelt.{speltVerdict}
+use Rattle.text.specs.declared.put.Written.{Written}
+use Rattle.text.specs.Said.{paper}
+use Rattle.tree_file.specs.TreeLines.{treeText}
+
+unfoldable pub spellingVerdict : ℕ → List ℕ → List ℕ → Verdict
+spellingVerdict n nodes pool =
+    refuseUnless (leb n mostRules) RuleWordsWrong then sizeVerdict nodes pool then speltVerdict n nodes pool
+
+abbrev pub writeVerdict : ℕ → List ℕ → List ℕ → ℕ → Verdict
+writeVerdict n nodes pool room = spellingVerdict n nodes pool then roomVerdict (length (treeText n nodes pool)) room
+
+abbrev pub TreeWritten : ℕ → List ℕ → List ℕ → List ℕ → Written → List ℕ → Type 0
+TreeWritten n nodes pool before r after =
+    Writes paper (writeVerdict n nodes pool (length before)) (length (treeText n nodes pool) ∷ [])
+    (treeText n nodes pool) before r after

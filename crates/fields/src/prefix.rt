@@ -14,7 +14,7 @@ pub fn prefix_good(address: u32, len: u32) -> bool
     if ADDRESS_BITS < len {
         return false;
     }
-    first_bits(address, len) << wide(ADDRESS_BITS - len) == wide(address)
+    first_bits(address, len) << in_64_bits(ADDRESS_BITS - len) == in_64_bits(address)
 }
 
 // Whether the first `len` bits of the address and of the word agree. A length over that of an address agrees with
@@ -35,7 +35,7 @@ pub fn prefix_meets(address: u32, len: u32, from: u32, to: u32) -> bool
     if to < address {
         return false;
     }
-    wide(from) <= wide(address) + span_of(len) - 1
+    in_64_bits(from) <= in_64_bits(address) + span_of(len) - 1
 }
 
 // How many words share their first `len` bits; one where the length is that of an address, or over it.
@@ -45,7 +45,7 @@ fn span_of(len: u32) -> u64
     if ADDRESS_BITS < len {
         return 1;
     }
-    1 << wide(ADDRESS_BITS - len)
+    1 << in_64_bits(ADDRESS_BITS - len)
 }
 
 // The first `len` bits of a word. It is shifted as a u64, so that a length of 0 may shift it by its whole width.
@@ -53,10 +53,10 @@ fn first_bits(word: u32, len: u32) -> u64
     requires { ⌜ len ≤ addressBits ⌝ }
     ensures { λ r. ⌜ r ≡ word / span addressBits len ⌝ }
 {
-    wide(word) >> wide(ADDRESS_BITS - len)
+    in_64_bits(word) >> in_64_bits(ADDRESS_BITS - len)
 }
 
-fn wide(word: u32) -> u64
+fn in_64_bits(word: u32) -> u64
     ensures { λ r. ⌜ r ≡ word ⌝ }
 {
     word as u64

@@ -5,6 +5,7 @@ use crate::words::PROTOCOL;
 use crate::words::RULE_WORDS;
 use crate::words::SOURCE;
 use crate::words::SOURCE_PORT;
+use crate::words::wide;
 use crate::words::word_of;
 use fields::bounds::Bounds;
 use fields::prefix::prefix_meets;
@@ -102,10 +103,4 @@ fn stands_in(entries: &[u32], number: usize) -> bool
         i += 1;
     }
     false
-}
-
-fn wide(word: u32) -> usize
-    ensures { λ r. ⌜ r ≡ word ⌝ }
-{
-    word as usize
 }

@@ -10,21 +10,19 @@ use Rattle.fields.proofs.prefix.prefix_meets.Tie as tie
 returns : tie.Need-returns
 returns c = ends-before _ _ _ _ _ (c .if1 .taken)
 
-wide-requires : tie.Need-wide-requires
-wide-requires c κs = search needs
+in-64-bits-requires : tie.Need-in-64-bits-requires
+in-64-bits-requires c κs = search needs
 
-wide-requires-2 : tie.Need-wide-requires-2
-wide-requires-2 c κs = search needs
+in-64-bits-requires-2 : tie.Need-in-64-bits-requires-2
+in-64-bits-requires-2 c κs = search needs
 
 span-of-requires : tie.Need-span-of-requires
 span-of-requires c κs = search needs
 
 add-result : tie.Need-add-result
 add-result c =
-    let s = c .before .before .before .before in
-    record {
-      fits = omega (arith, c .before .wide2 .ensures, c .span-of .ensures, span-at-most addressBits (s .args .len));
-    }
+    let most = span-at-most addressBits (c .before .before .before .before .args .len) in
+    record { fits = omega (arith, c .before .in-64-bits2 .ensures, c .span-of .ensures, most) }
 
 sub-result : tie.Need-sub-result
 sub-result c =
@@ -32,16 +30,16 @@ sub-result c =
 
 returns-2 : tie.Need-returns-2
 returns-2 c =
-    end-decides _ _ _ _ _ (c .before .before .before .if1 .left) (c .before .before .wide .ensures)
-    (c .before .wide2 .ensures) (c .span-of .ensures)
+    end-decides _ _ _ _ _ (c .before .before .before .if1 .left) (c .before .before .in-64-bits .ensures)
+    (c .before .in-64-bits2 .ensures) (c .span-of .ensures)
 
 pub prefix-meets-spec : {M : Type 1} → statement M
 prefix-meets-spec =
     tie.close
     (tie.spec
     returns
-    wide-requires
-    wide-requires-2
+    in-64-bits-requires
+    in-64-bits-requires-2
     span-of-requires
     add-result
     sub-result

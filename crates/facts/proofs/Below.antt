@@ -1,6 +1,8 @@
--- A test of each number below n: it holds exactly where the test holds of each.
-use Prim.Native.Nat.{ℕ, zero, suc, _<_}
+-- A test of each number below n: it holds exactly where the test holds of each; and the steps of a loop that tests
+-- them.
+use Prim.Native.Nat.{ℕ, zero, suc, _+_, _≤_, _<_}
 use native.Mathlib.Nat.{not-suc-le-zero}
+use native.Mathlib.Numerals.{add-one}
 use native.Mathlib.Omega.{arith}
 use mathlib.Core.Bool.{Bool, true, false}
 use mathlib.Core.Path.{_≡_, refl, sym, ap, _∙_}
@@ -25,21 +27,34 @@ unfolding allBelow
 all-below-of zero p h = refl
 all-below-of (suc n) p h = join (all-below-of n p (λ i l. h i (omega arith))) (h n (omega arith))
 
--- where one below n fails, not all pass
-pub one-fails : (n : ℕ) (p : ℕ → Bool) (i : ℕ) → i < n → p i ≡ false → false ≡ allBelow n p
-one-fails n p i l e = sym (fails (allBelow n p) (λ t. clash (all-below-at n p t i l) e))
-
--- there is no number below 0
-pub none-below : (p : ℕ → Bool) → allBelow 0 p ≡ true
+-- two tests that agree below n hold alike of all below n
+pub all-below-same : (n : ℕ) (p q : ℕ → Bool) → ((i : ℕ) → i < n → p i ≡ q i) → allBelow n p ≡ allBelow n q
 unfolding allBelow
-none-below p = refl
+all-below-same zero p q h = refl
+all-below-same (suc n) p q h = rw (all-below-same n p q (λ i l. h i (omega arith)), h n (omega arith))
 
--- where all below n pass, and n does, one more passes
-pub one-more : (n : ℕ) (p : ℕ → Bool) → allBelow n p ≡ true → p n ≡ true → allBelow (suc n) p ≡ true
-unfolding allBelow
-one-more n p h e = join h e
+-- ---- a loop that tests each number below n, from 0 on
 
--- where all below n pass, n decides
-pub last-decides : (n : ℕ) (p : ℕ → Bool) {t : Bool} → allBelow n p ≡ true → t ≡ p n → t ≡ allBelow (suc n) p
+-- the loop's invariant at i: it goes no further than n, and each number before i passed
+pub record AllPassed (n : ℕ) (p : ℕ → Bool) (i : ℕ) : Type 0 where
+  pub within : i ≤ n
+  pub passed : allBelow i p ≡ true
+
+-- where the loop begins none was tested
+pub passed-first : (n : ℕ) (p : ℕ → Bool) → AllPassed n p 0
 unfolding allBelow
-last-decides n p h e = rw h e
+passed-first n p = record { within = omega arith; passed = refl }
+
+module _ {n : ℕ} {p : ℕ → Bool} {i : ℕ} (w : AllPassed n p i) where
+  -- a number that passes leaves it to those after it
+  pub passed-step : i < n → p i ≡ true → AllPassed n p (i + 1)
+  unfolding allBelow
+  passed-step l e = record { within = omega arith; passed = rw (add-one, allBelow) (join (w .passed) e) }
+
+  -- a number that fails decides
+  pub passed-stop : i < n → p i ≡ false → false ≡ allBelow n p
+  passed-stop l e = sym (fails (allBelow n p) (λ t. clash (all-below-at n p t i l) e))
+
+  -- at the end all pass
+  pub passed-last : n ≤ i → true ≡ allBelow n p
+  passed-last l = let e : i ≡ n = omega arith in sym (rw e at (w .passed))

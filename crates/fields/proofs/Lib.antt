@@ -1,6 +1,7 @@
--- Laws of prefixes, ranges, headers, boxes and cuts.
+-- Laws of prefixes, ranges, fields of rules, headers, boxes and cuts.
 pub mod Prefixes
 pub mod Ranges
+pub mod Fields
 pub mod Headers
 pub mod Boxes
 pub mod Root

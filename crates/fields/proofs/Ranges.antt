@@ -17,9 +17,9 @@ holds-iff-between low high x = (
 )
 
 -- a good range begins no later than it ends
-pub range-not-empty : (low high top : ℕ) → rangeGood low high top ≡ true → low ≤ high
+pub range-not-empty : (low high largest : ℕ) → rangeGood low high largest ≡ true → low ≤ high
 unfolding rangeGood
-range-not-empty low high top e = leb-true low high (both (leb low high) (leb high top) e .0)
+range-not-empty low high largest e = leb-true low high (both (leb low high) (leb high largest) e .0)
 
 -- two ranges meet exactly where each begins no later than the other ends
 pub ranges-meet-iff : (low high from to : ℕ) → (rangesMeet low high from to ≡ true) ↔ ((low ≤ to) × (from ≤ high))

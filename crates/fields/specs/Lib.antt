@@ -1,7 +1,8 @@
--- What bounds a field; headers, prefixes, ranges, boxes and cuts.
+-- What bounds a field; headers, prefixes, ranges, fields of rules, boxes and cuts.
 pub mod Words
 pub mod Headers
 pub mod Prefixes
 pub mod Ranges
+pub mod Fields
 pub mod Boxes
 pub mod Cuts

@@ -1,6 +1,6 @@
 // Boxes as values: for each field its low and its high end, both included.
 use crate::header::FIELDS;
-use crate::header::top_of;
+use crate::header::TOPS;
 ghost use Prim.Native.Nat.{_+_, _<_};
 ghost use mathlib.Core.Path.{_≡_};
 ghost use Rattle.fields.specs.Boxes.{rootBox};
@@ -14,11 +14,11 @@ pub fn root_box() -> Bounds
     ensures { λ r. ⌜ r ≡ rootBox ⌝ }
 {
     [
-        [0, top_of(0)],
-        [0, top_of(1)],
-        [0, top_of(2)],
-        [0, top_of(3)],
-        [0, top_of(4)],
+        [0, TOPS[0]],
+        [0, TOPS[1]],
+        [0, TOPS[2]],
+        [0, TOPS[3]],
+        [0, TOPS[4]],
     ]
 }
 

@@ -2,14 +2,13 @@
 use refusals::Refusal;
 use refusals::Verdict;
 ghost use mathlib.Core.Path.{_≡_};
-ghost use Rattle.fields.specs.Words.{topOf};
 ghost use Rattle.fields.specs.Headers.{headerVerdict};
 
 // The number of fields, and so of a header's words.
 pub const FIELDS: usize = 5;
 
 // The largest value of each field: source, destination, source port, destination port, protocol.
-const TOPS: [u32; FIELDS] = [4_294_967_295, 4_294_967_295, 65_535, 65_535, 255];
+pub(crate) const TOPS: [u32; FIELDS] = [4_294_967_295, 4_294_967_295, 65_535, 65_535, 255];
 
 // Whether a header is legal. The length is looked at first, and then the fields, from the lowest.
 pub fn header_verdict(header: &[u32]) -> Verdict
@@ -20,20 +19,10 @@ pub fn header_verdict(header: &[u32]) -> Verdict
     }
     let mut field = 0;
     while field < FIELDS {
-        if top_of(field) < header[field] {
+        if TOPS[field] < header[field] {
             return Verdict::Refused(Refusal::HeaderWrong { field });
         }
         field += 1;
     }
     Verdict::Fine
-}
-
-// The largest value of a field; 0 past the last field.
-pub fn top_of(field: usize) -> u32
-    ensures { λ r. ⌜ r ≡ topOf field ⌝ }
-{
-    if FIELDS <= field {
-        return 0;
-    }
-    TOPS[field]
 }

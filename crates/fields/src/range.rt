@@ -2,14 +2,14 @@
 ghost use mathlib.Core.Path.{_≡_};
 ghost use Rattle.fields.specs.Ranges.{rangeGood, rangeHolds, rangesMeet};
 
-// Whether low is at most high, and high at most the field's top.
-pub fn range_good(low: u32, high: u32, top: u32) -> bool
-    ensures { λ r. ⌜ r ≡ rangeGood low high top ⌝ }
+// Whether low is at most high, and high at most the largest end.
+pub fn range_good(low: u32, high: u32, largest: u32) -> bool
+    ensures { λ r. ⌜ r ≡ rangeGood low high largest ⌝ }
 {
     if high < low {
         return false;
     }
-    high <= top
+    high <= largest
 }
 
 // Whether the word lies in the range. A range with low over high holds nothing.

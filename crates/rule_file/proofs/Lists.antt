@@ -9,7 +9,6 @@ use mathlib.Core.Path.{_≡_, sym, ap, _∙_}
 use lib.ListN.{length, getD, take, drop, set, replicate, length-take, length-drop}
 use lib.Seq.{sets, take-append-le, drop-append-le, drop-at, take-all, take-length, take-add}
 use lib.Seq.{getD-take, getD-drop}
-use Rattle.facts.specs.Below.{allBelow}
 use Rattle.facts.proofs.Bools.{fails}
 use Rattle.facts.proofs.Setting.{sets-more}
 use Rattle.refusals.specs.declared.Refusal.{Refusal}
@@ -18,6 +17,7 @@ use Rattle.refusals.proofs.Order.{refused-not-fine}
 use Rattle.rules.specs.Words.{ruleWords, wordOf}
 use Rattle.rules.specs.Good.{listVerdict}
 use Rattle.rules.specs.Good as rules
+use Rattle.rules.proofs.Forms.{good-same}
 use Rattle.rules.proofs.Lists.{GoodList, fine-iff-good}
 use Rattle.rule_file.specs.Records.{ruleAt}
 use Rattle.rule_file.proofs.Filled.{filled-all}
@@ -67,23 +67,6 @@ word-at : (ws : List ℕ) (i k : ℕ) → k < ruleWords → wordOf (ruleAt ws i)
 word-at ws i k h =
     let e : 0 * ruleWords + k ≡ k = omega arith in
     rw e (getD-take ruleWords (drop (i * ruleWords) ws) k 0 h ∙ getD-drop (i * ruleWords) ws k 0)
-
-good-same :
-    (a b : List ℕ) (i j : ℕ) → ((k : ℕ) → k < ruleWords → wordOf a i k ≡ wordOf b j k) → rules.good a i ≡ rules.good b j
-unfolding rules.good allBelow
-good-same a b i j h =
-    rw (
-      h 0 (omega arith),
-      h 1 (omega arith),
-      h 2 (omega arith),
-      h 3 (omega arith),
-      h 4 (omega arith),
-      h 5 (omega arith),
-      h 6 (omega arith),
-      h 7 (omega arith),
-      h 8 (omega arith),
-      h 9 (omega arith),
-    )
 
 -- the ten words of a rule are good exactly where the rule is good in its list
 pub good-at : (ws : List ℕ) (i : ℕ) → rules.good (ruleAt ws i) 0 ≡ rules.good ws i

@@ -1,6 +1,7 @@
 -- Laws of lists of rules: what is good, what a rule means, what entries lack, what the searches say and list, and that
 -- promises are exact.
 pub mod Lists
+pub mod Forms
 pub mod Meaning
 pub mod AnyWords
 pub mod Lacks

@@ -1,9 +1,8 @@
 -- Good rules and good lists. Definitions only.
---   fieldGood form top rs r    a prefix of rule r is good, or a range of it is and ends no later than top
---   good rs r                  rule r is good: each of its fields is
---   ruleVerdict rs r           2 at rule r, where it is not good
---   listVerdict rs             1 for words that are not whole rules or too many, then 2 at the lowest rule not good
-use Prim.Native.Nat.{ℕ, zero, _+_, _*_, _%_}
+--   good rs r           rule r is good: each of its fields is
+--   ruleVerdict rs r    2 at rule r, where it is not good
+--   listVerdict rs      1 for words that are not whole rules or too many, then 2 at the lowest rule not good
+use Prim.Native.Nat.{ℕ, _*_, _%_}
 use mathlib.Core.Bool.{Bool}
 use mathlib.Core.List.{List}
 use lib.ListN.{length}
@@ -12,17 +11,12 @@ use Rattle.facts.specs.Below.{allBelow}
 use Rattle.refusals.specs.declared.Refusal.the-variants.{RuleWordsWrong, RuleNotGood}
 use Rattle.refusals.specs.declared.Verdict.{Verdict}
 use Rattle.refusals.specs.Order.{refuseUnless, _then_, inTurn}
-use Rattle.fields.specs.Words.{addressBits, fieldCount, topOf}
-use Rattle.fields.specs.Prefixes.{prefixGood}
-use Rattle.fields.specs.Ranges.{rangeGood}
-use Rattle.rules.specs.Words.{ruleWords, mostRules, ruleCount, wordOf, Form, prefix, range, formOf}
-
-abbrev pub fieldGood : Form → ℕ → List ℕ → ℕ → Bool
-fieldGood (prefix j) top rs r = prefixGood addressBits (wordOf rs r j) (wordOf rs r (j + 1))
-fieldGood (range j) top rs r = rangeGood (wordOf rs r j) (wordOf rs r (j + 1)) top
+use Rattle.fields.specs.Words.{fieldCount}
+use Rattle.fields.specs.Fields.{fieldGood}
+use Rattle.rules.specs.Words.{ruleWords, mostRules, ruleCount, formOf, fieldOf}
 
 unfoldable pub good : List ℕ → ℕ → Bool
-good rs r = allBelow fieldCount (λ f. fieldGood (formOf f) (topOf f) rs r)
+good rs r = allBelow fieldCount (λ f. fieldGood (fieldOf (formOf f) rs r))
 
 unfoldable pub ruleVerdict : List ℕ → ℕ → Verdict
 ruleVerdict rs r = refuseUnless (good rs r) (RuleNotGood r)

@@ -1,17 +1,25 @@
 -- The words of a list of rules. Definitions only.
---   ruleWords          the words of a rule
---   mostRules          the most rules that a list holds
---   ruleCount rs       the number of whole rules
---   ruleThere rs r     rule r is wholly lent
---   wordOf rs r j      word j of rule r
---   Form               how a rule gives a field: an address and its length, or a low and a high end, from that word on
---   forms              the form of each field: source, destination, source port, destination port, protocol
---   formOf f           the form of field f
+--   ruleWords            the words of a rule
+--   mostRules            the most rules that a list holds
+--   ruleCount rs         the number of whole rules
+--   ruleThere rs r       rule r is wholly lent
+--   wordOf rs r j        word j of rule r
+--   largestPort, largestProtocol    the largest end of a rule's range of ports, and of protocols
+--   Form                 how a rule gives a field:
+--     Prefix address len        by a prefix: the words of its address and of its length
+--     Range low high largest    by a range: the words of its two ends, and the largest end that it may have
+--   forms                the form of each field: source, destination, source port, destination port, protocol
+--   formOf f             the form of field f
+--   fieldOf form rs r    the field that rule r gives in that form
 use Prim.Native.Nat.{ℕ, _+_, _*_, _/_}
 use mathlib.Core.Bool.{Bool}
 use mathlib.Core.List.{List, [], _∷_}
 use lib.ListN.{length, getD}
 use lib.Dec.{ltb}
+use Rattle.fields.specs.declared.field.Field.{Field}
+use Rattle.fields.specs.declared.field.Field.the-variants as field
+use Rattle.rules.specs.declared.words.Form.{Form}
+use Rattle.rules.specs.declared.words.Form.the-variants.{Prefix, Range}
 
 abbrev pub ruleWords : ℕ
 ruleWords = 10
@@ -28,12 +36,18 @@ ruleThere rs r = ltb r (ruleCount rs)
 abbrev pub wordOf : List ℕ → ℕ → ℕ → ℕ
 wordOf rs r j = getD rs (r * ruleWords + j) 0
 
-pub data Form : Type 0 where
-  prefix : ℕ → Form
-  range : ℕ → Form
+abbrev pub largestPort : ℕ
+largestPort = 65535
+
+abbrev pub largestProtocol : ℕ
+largestProtocol = 255
 
 abbrev pub forms : List Form
-forms = prefix 0 ∷ prefix 2 ∷ range 4 ∷ range 6 ∷ range 8 ∷ []
+forms = Prefix 0 1 ∷ Prefix 2 3 ∷ Range 4 5 largestPort ∷ Range 6 7 largestPort ∷ Range 8 9 largestProtocol ∷ []
 
 abbrev pub formOf : ℕ → Form
-formOf f = getD forms f (range 0)
+formOf f = getD forms f (Prefix 0 0)
+
+abbrev pub fieldOf : Form → List ℕ → ℕ → Field
+fieldOf (Prefix address len) rs r = field.Prefix (wordOf rs r address) (wordOf rs r len)
+fieldOf (Range low high largest) rs r = field.Range (wordOf rs r low) (wordOf rs r high) largest

@@ -1,23 +1,18 @@
 // What a list of entries lacks: the rules whose box meets a box, and whose numbers are not among the entries.
-use crate::words::DESTINATION;
-use crate::words::DESTINATION_PORT;
-use crate::words::PROTOCOL;
 use crate::words::RULE_WORDS;
-use crate::words::SOURCE;
-use crate::words::SOURCE_PORT;
+use crate::words::field_of;
 use crate::words::wide;
-use crate::words::word_of;
 use fields::bounds::Bounds;
-use fields::prefix::prefix_meets;
-use fields::range::ranges_meet;
-ghost use Prim.Native.Nat.{_+_, _<_};
+use fields::field::field_meets;
+use fields::header::FIELDS;
+ghost use Prim.Native.Nat.{_<_};
 ghost use mathlib.Core.Path.{_≡_};
 ghost use Rattle.facts.specs.Lists.{has};
 ghost use Rattle.fields.specs.Words.{fieldCount};
 ghost use Rattle.fields.specs.Boxes.{meets};
-ghost use Rattle.rules.specs.Words.{ruleWords, ruleCount, prefix, range};
+ghost use Rattle.rules.specs.Words.{ruleCount};
 ghost use Rattle.rules.specs.Matching.{ruleBox};
-ghost use Rattle.rules.specs.Lacking.{fieldMeets, lacking, lowestLacking};
+ghost use Rattle.rules.specs.Lacking.{lacking, lowestLacking};
 
 // The lowest rule that the entries lack in the box; the number of rules where they lack none.
 pub fn lowest_lacking(rules: &[u32], entries: &[u32], bounds: Bounds) -> usize
@@ -50,45 +45,14 @@ fn box_meets(rules: &[u32], bounds: Bounds, r: usize) -> bool
     requires { ⌜ r < ruleCount (now rules) ⌝ }
     ensures { λ m. ⌜ m ≡ meets fieldCount (ruleBox (now (rules .entry)) r) bounds ⌝ }
 {
-    if !prefix_meets_at(rules, r, SOURCE, bounds[0]) {
-        return false;
+    let mut f = 0;
+    while f < FIELDS {
+        if !field_meets(field_of(rules, r, f), bounds[f]) {
+            return false;
+        }
+        f += 1;
     }
-    if !prefix_meets_at(rules, r, DESTINATION, bounds[1]) {
-        return false;
-    }
-    if !range_meets_at(rules, r, SOURCE_PORT, bounds[2]) {
-        return false;
-    }
-    if !range_meets_at(rules, r, DESTINATION_PORT, bounds[3]) {
-        return false;
-    }
-    range_meets_at(rules, r, PROTOCOL, bounds[4])
-}
-
-// Whether the prefix that begins at word `j` of rule `r` meets the range between the ends.
-fn prefix_meets_at(rules: &[u32], r: usize, j: usize, ends: [u32; 2]) -> bool
-    requires { ⌜ (r < ruleCount (now rules)) × (j + 1 < ruleWords) ⌝ }
-    ensures { λ m. ⌜ m ≡ fieldMeets (prefix j) (now (rules .entry)) r ends ⌝ }
-{
-    prefix_meets(
-        word_of(rules, r, j),
-        word_of(rules, r, j + 1),
-        ends[0],
-        ends[1],
-    )
-}
-
-// Whether the range that begins at word `j` of rule `r` meets the range between the ends.
-fn range_meets_at(rules: &[u32], r: usize, j: usize, ends: [u32; 2]) -> bool
-    requires { ⌜ (r < ruleCount (now rules)) × (j + 1 < ruleWords) ⌝ }
-    ensures { λ m. ⌜ m ≡ fieldMeets (range j) (now (rules .entry)) r ends ⌝ }
-{
-    ranges_meet(
-        word_of(rules, r, j),
-        word_of(rules, r, j + 1),
-        ends[0],
-        ends[1],
-    )
+    true
 }
 
 // Whether a number stands in the entries.

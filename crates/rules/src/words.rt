@@ -1,7 +1,10 @@
 // The words of a list of rules.
+use fields::field::Field;
+use fields::header::FIELDS;
 ghost use Prim.Native.Nat.{_<_};
 ghost use mathlib.Core.Path.{_≡_};
-ghost use Rattle.rules.specs.Words.{ruleWords, ruleCount, ruleThere, wordOf};
+ghost use Rattle.fields.specs.Words.{fieldCount};
+ghost use Rattle.rules.specs.Words.{ruleWords, ruleCount, ruleThere, wordOf, formOf, fieldOf};
 
 // The words of a rule.
 pub const RULE_WORDS: usize = 10;
@@ -9,16 +12,45 @@ pub const RULE_WORDS: usize = 10;
 // The most rules that a list holds.
 pub const MOST_RULES: usize = 512;
 
-// The word of a rule at which each field begins: an address before its length, a low end before its high end.
-pub const SOURCE: usize = 0;
+// The largest end of a rule's range of ports, and of protocols.
+const LARGEST_PORT: u32 = 65_535;
 
-pub const DESTINATION: usize = 2;
+const LARGEST_PROTOCOL: u32 = 255;
 
-pub const SOURCE_PORT: usize = 4;
+// How a rule gives a field: by a prefix, the words of its address and of its length; or by a range, the words of its
+// two ends, and the largest end that it may have.
+enum Form {
+    Prefix {
+        address: usize,
+        len: usize,
+    },
+    Range {
+        low: usize,
+        high: usize,
+        largest: u32,
+    },
+}
 
-pub const DESTINATION_PORT: usize = 6;
-
-pub const PROTOCOL: usize = 8;
+// The form of each field: source, destination, source port, destination port, protocol.
+const FORMS: [Form; FIELDS] = [
+    Form::Prefix { address: 0, len: 1 },
+    Form::Prefix { address: 2, len: 3 },
+    Form::Range {
+        low: 4,
+        high: 5,
+        largest: LARGEST_PORT,
+    },
+    Form::Range {
+        low: 6,
+        high: 7,
+        largest: LARGEST_PORT,
+    },
+    Form::Range {
+        low: 8,
+        high: 9,
+        largest: LARGEST_PROTOCOL,
+    },
+];
 
 // Whether rule `r` is wholly lent.
 pub fn rule_there(rules: &[u32], r: usize) -> bool
@@ -27,8 +59,27 @@ pub fn rule_there(rules: &[u32], r: usize) -> bool
     r < rules.len() / RULE_WORDS
 }
 
+// Field `f` of rule `r`, read in the form of that field.
+pub(crate) fn field_of(rules: &[u32], r: usize, f: usize) -> Field
+    requires { ⌜ (r < ruleCount (now rules)) × (f < fieldCount) ⌝ }
+    ensures { λ v. ⌜ v ≡ fieldOf (formOf f) (now (rules .entry)) r ⌝ }
+{
+    let form = FORMS[f];
+    match form {
+        Form::Prefix { address, len } => Field::Prefix {
+            address: word_of(rules, r, address),
+            len: word_of(rules, r, len),
+        },
+        Form::Range { low, high, largest } => Field::Range {
+            low: word_of(rules, r, low),
+            high: word_of(rules, r, high),
+            largest,
+        },
+    }
+}
+
 // Word `j` of rule `r`.
-pub(crate) fn word_of(rules: &[u32], r: usize, j: usize) -> u32
+fn word_of(rules: &[u32], r: usize, j: usize) -> u32
     requires { ⌜ (r < ruleCount (now rules)) × (j < ruleWords) ⌝ }
     ensures { λ w. ⌜ w ≡ wordOf (now (rules .entry)) r j ⌝ }
 {

@@ -24,22 +24,24 @@ returns c = length-wrong _ (c .if1 .taken)
 loop-holds : tie.Need-loop-holds Inv-loop μ-loop
 loop-holds c = (omega arith, head-first _ _)
 
-top-of-requires : tie.Need-top-of-requires Inv-loop μ-loop
-top-of-requires c κs = search needs
-
 mul-if2 : tie.Need-mul-if2 Inv-loop μ-loop
-mul-if2 c = omega arith
+mul-if2 c = search needs
+
+array-read-if2 : tie.Need-array-read-if2 Inv-loop μ-loop
+array-read-if2 c = search needs
+
+mul-if2-2 : tie.Need-mul-if2-2 Inv-loop μ-loop
+mul-if2-2 c = omega arith
 
 shared-slice-read-if2 : tie.Need-shared-slice-read-if2 Inv-loop μ-loop
 shared-slice-read-if2 c = omega arith
 
 returns-2 : tie.Need-returns-2 Inv-loop μ-loop
 returns-2 c =
-    let h = c .before .before .before .before in
-    let over = rw (c .before .before .top-of .ensures) at (c .if2 .taken) in
+    let h = c .before .before .before in
     sym
     (fields-decide _ (h .before .if1 .left) ∙
-    head-stop (h .loop .inv .1) (c .before .before .before .loop-test .taken) (field-over _ _ over))
+    head-stop (h .loop .inv .1) (c .before .before .loop-test .taken) (field-over _ _ (c .if2 .taken)))
 
 add-field : tie.Need-add-field Inv-loop μ-loop
 add-field c = omega arith
@@ -49,9 +51,8 @@ loop-less c = omega arith
 
 loop-again : tie.Need-loop-again Inv-loop μ-loop
 loop-again c =
-    let h = c .before .before .before .before in
-    let within = rw (c .before .before .top-of .ensures) at (c .if2 .left) in
-    (omega arith, head-step (h .loop .inv .1) (c .before .before .before .loop-test .taken) (field-within _ _ within))
+    let h = c .before .before .before in
+    (omega arith, head-step (h .loop .inv .1) (c .before .before .loop-test .taken) (field-within _ _ (c .if2 .left)))
 
 returns-3 : tie.Need-returns-3 Inv-loop μ-loop
 returns-3 c =
@@ -65,8 +66,9 @@ header-verdict-spec =
     μ-loop
     returns
     loop-holds
-    top-of-requires
     mul-if2
+    array-read-if2
+    mul-if2-2
     shared-slice-read-if2
     returns-2
     add-field

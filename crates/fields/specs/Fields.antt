@@ -1,0 +1,30 @@
+-- One field of a rule: a prefix, or a range with the largest end that it may have. Definitions only.
+--   fieldGood field          the prefix is good, or the range is and ends no later than it may
+--   fieldMatches field x     the first bits of x agree with the prefix, or x lies in the range; for any words
+--   fieldEnds field          the range that a good field stands for
+--   fieldMeets field ends    that range meets the one between the two ends
+use Prim.Native.Nat.{ℕ}
+use mathlib.Core.Bool.{Bool}
+use mathlib.Core.List.{List, [], _∷_}
+use lib.ListN.{getD}
+use Rattle.fields.specs.declared.field.Field.{Field}
+use Rattle.fields.specs.declared.field.Field.the-variants.{Prefix, Range}
+use Rattle.fields.specs.Words.{addressBits}
+use Rattle.fields.specs.Prefixes.{prefixGood, prefixAgrees, prefixEnds}
+use Rattle.fields.specs.Ranges.{rangeGood, rangeHolds, rangesMeet}
+
+abbrev pub fieldGood : Field → Bool
+fieldGood (Prefix address len) = prefixGood addressBits address len
+fieldGood (Range low high largest) = rangeGood low high largest
+
+abbrev pub fieldMatches : Field → ℕ → Bool
+fieldMatches (Prefix address len) x = prefixAgrees addressBits address len x
+fieldMatches (Range low high largest) x = rangeHolds low high x
+
+abbrev pub fieldEnds : Field → List ℕ
+fieldEnds (Prefix address len) = prefixEnds addressBits address len
+fieldEnds (Range low high largest) = low ∷ high ∷ []
+
+abbrev pub fieldMeets : Field → List ℕ → Bool
+fieldMeets field ends =
+    rangesMeet (getD (fieldEnds field) 0 0) (getD (fieldEnds field) 1 0) (getD ends 0 0) (getD ends 1 0)

@@ -1,0 +1,54 @@
+// One field of a rule: a prefix, or a range with the largest end that it may have.
+use crate::prefix::prefix_agrees;
+use crate::prefix::prefix_good;
+use crate::prefix::prefix_meets;
+use crate::range::range_good;
+use crate::range::range_holds;
+use crate::range::ranges_meet;
+ghost use mathlib.Core.Path.{_≡_};
+ghost use Rattle.fields.specs.Fields.{fieldGood, fieldMatches, fieldMeets};
+
+pub enum Field {
+    Prefix { address: u32, len: u32 },
+    Range { low: u32, high: u32, largest: u32 },
+}
+
+// Whether the prefix is good, or the range is and ends no later than it may.
+pub fn field_good(field: Field) -> bool
+    ensures { λ r. ⌜ r ≡ fieldGood field ⌝ }
+{
+    match field {
+        Field::Prefix { address, len } => prefix_good(address, len),
+        Field::Range { low, high, largest } => range_good(low, high, largest),
+    }
+}
+
+// Whether the first bits of the word agree with the prefix, or the word lies in the range.
+pub fn field_matches(field: Field, word: u32) -> bool
+    ensures { λ r. ⌜ r ≡ fieldMatches field word ⌝ }
+{
+    match field {
+        Field::Prefix { address, len } => prefix_agrees(address, len, word),
+        Field::Range {
+            low,
+            high,
+            largest: _,
+        } => range_holds(low, high, word),
+    }
+}
+
+// Whether the range that the field stands for meets the one between the two ends.
+pub fn field_meets(field: Field, ends: [u32; 2]) -> bool
+    ensures { λ r. ⌜ r ≡ fieldMeets field ends ⌝ }
+{
+    let from = ends[0];
+    let to = ends[1];
+    match field {
+        Field::Prefix { address, len } => prefix_meets(address, len, from, to),
+        Field::Range {
+            low,
+            high,
+            largest: _,
+        } => ranges_meet(low, high, from, to),
+    }
+}

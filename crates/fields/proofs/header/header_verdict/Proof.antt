@@ -2,7 +2,7 @@
 -- The invariant: the fields before this one are fine, so what is left decides. Assumes nothing.
 use Prim.Native.Nat.{_≤_, _-_}
 use native.Mathlib.Omega.{arith}
-use mathlib.Core.Path.{_≡_, sym, _∙_}
+use mathlib.Core.Path.{sym, _∙_}
 use lib.ListN.{length}
 use borrow.Author.Needs.{needs}
 use Rattle.refusals.proofs.Turns.{Head, head-first, head-step, head-stop, head-last}

@@ -1,5 +1,5 @@
 -- Boxes of any number of fields: two boxes meet exactly where they have a common point.
-use Prim.Native.Nat.{ℕ, zero, _≤_, _<_, max}
+use Prim.Native.Nat.{ℕ, _≤_, _<_, max}
 use native.Mathlib.Nat.{le-max-left, le-max-right, max-le}
 use native.Mathlib.Omega.{arith}
 use mathlib.Core.Bool.{Bool, true}
@@ -7,7 +7,6 @@ use mathlib.Core.Path.{_≡_}
 use mathlib.Core.Logic.{_↔_}
 use mathlib.Core.List.{List}
 use lib.ListN.{length, getD}
-use Rattle.facts.specs.Below.{allBelow}
 use Rattle.facts.specs.Lists.{tabulate}
 use Rattle.facts.proofs.Below.{all-below-at, all-below-of}
 use Rattle.facts.proofs.Tables.{length-tabulate, getD-tab}

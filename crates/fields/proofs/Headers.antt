@@ -1,18 +1,15 @@
 -- Headers: the tests one by one, and what a legal header is.
-use Prim.Native.Nat.{ℕ, zero, _≤_, _<_}
-use mathlib.Core.Bool.{true, false}
-use mathlib.Core.Path.{_≡_, refl, sym, ap, _∙_}
+use Prim.Native.Nat.{ℕ, _≤_, _<_}
+use mathlib.Core.Path.{_≡_, sym, _∙_}
 use mathlib.Core.Logic.{_↔_}
 use mathlib.Core.List.{List}
 use lib.ListN.{length, getD}
-use lib.Dec.{leb, eqb}
 use borrow.Author.Tests.{leb-true, le-leb, lt-leb, eqb-true, eq-eqb, ne-eqb}
 use Rattle.refusals.specs.declared.Refusal.the-variants.{HeaderWrong}
-use Rattle.refusals.specs.declared.Verdict.{Verdict}
 use Rattle.refusals.specs.declared.Verdict.the-variants.{Fine, Refused}
-use Rattle.refusals.specs.Order.{refuseUnless, _then_, inTurn}
+use Rattle.refusals.specs.Order.{_then_, inTurn}
 use Rattle.refusals.proofs.Order.{holds-fine, fails-refused, fine-iff-holds, then-fine, then-refused, then-fine-iff}
-use Rattle.refusals.proofs.Turns.{Head, head-first, head-step, head-stop, head-last, turns-fine-iff}
+use Rattle.refusals.proofs.Turns.{turns-fine-iff}
 use Rattle.fields.specs.Words.{fieldCount, topOf}
 use Rattle.fields.specs.Headers.{fieldVerdict, headerVerdict, Legal}
 

@@ -5,7 +5,7 @@
 --   Full n b                 no field of b is empty
 --   meets n a b              in each field a begins no later than b ends, and b no later than a ends
 --   rootBox                  from 0 to the top of each field
-use Prim.Native.Nat.{ℕ, zero, _≤_, _<_}
+use Prim.Native.Nat.{ℕ, _≤_, _<_}
 use mathlib.Core.Bool.{Bool}
 use mathlib.Core.Path.{_≡_}
 use mathlib.Core.List.{List, [], _∷_, map}

@@ -2,7 +2,7 @@
 --   fieldVerdict h f    3 at field f, where its value is over the field's top
 --   headerVerdict h     3: the place is 5 for any length but five, else the lowest field that is too large
 --   Legal h             a header that there can be
-use Prim.Native.Nat.{ℕ, zero}
+use Prim.Native.Nat.{ℕ}
 use mathlib.Core.Path.{_≡_}
 use mathlib.Core.List.{List}
 use lib.ListN.{length, getD}

@@ -5,7 +5,6 @@ use mathlib.Core.Path.{_≡_, ap}
 use mathlib.Core.Logic.{_⊎_, inl, inr, _↔_}
 use mathlib.Core.List.{List}
 use borrow.Author.Tests.{not-true}
-use Rattle.facts.specs.Below.{lowest}
 use Rattle.facts.specs.Lists.{has}
 use Rattle.facts.proofs.Bools.{both, join, sure, clash, fails}
 use Rattle.facts.proofs.Lowest.{lowest-passes, lowest-none-iff}

@@ -1,16 +1,14 @@
 -- Lists of rules: the tests one by one, and what a good list is.
-use Prim.Native.Nat.{ℕ, zero, _*_, _/_, _%_, _≤_, _<_}
-use native.Mathlib.Omega.{arith}
-use mathlib.Core.Bool.{Bool, true, false}
+use Prim.Native.Nat.{ℕ, _*_, _%_, _≤_, _<_}
+use mathlib.Core.Bool.{true, false}
 use mathlib.Core.Path.{_≡_, sym, _∙_}
 use mathlib.Core.Logic.{_↔_}
 use mathlib.Core.List.{List}
 use lib.ListN.{length}
-use lib.Dec.{leb, eqb}
 use borrow.Author.Tests.{leb-true, le-leb, lt-leb, eqb-true, eq-eqb, ne-eqb}
 use Rattle.refusals.specs.declared.Refusal.the-variants.{RuleWordsWrong, RuleNotGood}
 use Rattle.refusals.specs.declared.Verdict.the-variants.{Fine, Refused}
-use Rattle.refusals.specs.Order.{refuseUnless, _then_, inTurn}
+use Rattle.refusals.specs.Order.{_then_, inTurn}
 use Rattle.refusals.proofs.Order.{holds-fine, fails-refused, fine-iff-holds, then-fine, then-refused, then-fine-iff}
 use Rattle.refusals.proofs.Turns.{turns-fine-iff}
 use Rattle.rules.specs.Words.{ruleWords, mostRules, ruleCount}

@@ -3,7 +3,6 @@
 use Prim.Native.Nat.{_≤_, _-_}
 use native.Mathlib.Omega.{arith}
 use mathlib.Core.Path.{sym, _∙_}
-use lib.ListN.{length}
 use borrow.Author.Needs.{needs}
 use Rattle.refusals.proofs.Turns.{Head, head-first, head-step, head-stop, head-last}
 use Rattle.fields.specs.Words.{fieldCount}

@@ -7,7 +7,7 @@ use lib.ListN.{length}
 use Rattle.refusals.specs.declared.Verdict.the-variants.{Fine}
 use Rattle.refusals.specs.Promises.{value}
 use Rattle.refusals.proofs.Order.{refused-not-fine}
-use Rattle.refusals.proofs.Promises.{says-unique, both-unique, writes-only}
+use Rattle.refusals.proofs.Promises.{says-unique, writes-only}
 use Rattle.rules.proofs.Unique.{checked-apart, listed-apart, first-apart}
 use Rattle.trees.specs.Words.{nodeWords}
 use Rattle.trees.proofs.Sizes.{sizes-fine-iff}
@@ -90,12 +90,15 @@ calls-claim =
       rules-write = λ rs w. writes-only written-apart (λ r a p. p) (λ e. refl);
       rules-read = λ s w. writes-only rules-apart (λ r a p. p) (λ e. words-whole s (rulesIn s) refl);
       tree-write = λ k ns es w. writes-only written-apart (λ r a p. p) (λ e. refl);
-      tree-read = λ s ns es x y p q. let e = both-unique tree-apart p q in rw (e .0, e .1, e .2);
-      tree-read-nodes = λ s w es after.
-          writes-only tree-apart (λ r a p. p .0) (λ e. tree-values s (length w) (length es) (treeIn s) refl e .0);
-      tree-read-pool = λ s ns w after.
-          writes-only tree-apart (λ r a p. p .1) (λ e. tree-values s (length ns) (length w) (treeIn s) refl e .1);
+      tree-read = λ s ns es.
+          let sizes = tree-values s (length ns) (length es) (treeIn s) refl in (
+            writes-only tree-apart (λ r a p. p .1 .0) (λ e. sizes e .0),
+            writes-only tree-apart (λ r a p. p .1 .1) (λ e. sizes e .1),
+          );
       reply = λ bytes w. writes-only written-apart (λ r a p. p) (λ e. refl);
       take-list = λ f w. writes-only policy.listed-apart (λ r a p. p) (λ e. refl);
-      take-tree = λ f ns es x y p q. let e = both-unique policy.taken-apart p q in rw (e .0, e .1, e .2);
+      take-tree = λ f ns es. (
+        writes-only policy.taken-apart (λ r a p. p .1 .0) (λ e. refl),
+        writes-only policy.taken-apart (λ r a p. p .1 .1) (λ e. refl),
+      );
     }

@@ -7,7 +7,7 @@
 use Prim.Native.Nat.{ℕ, _*_}
 use mathlib.Core.List.{List}
 use mathlib.Core.Option.{Option}
-use Rattle.refusals.specs.Promises.{Fixes, WritesOnly, value}
+use Rattle.refusals.specs.Promises.{Fixes, WritesOnly, WritesBoth, value}
 use Rattle.rules.specs as rules
 use Rattle.trees.specs as trees
 use Rattle.tree_check.specs as tree-check
@@ -15,7 +15,6 @@ use Rattle.rule_file.specs as rule-file
 use Rattle.tree_file.specs as tree-file
 use Rattle.text.specs as text
 use Rattle.policy.specs as policy
-use Rattle.policy.specs.declared.tree.Taken.{Taken}
 use Rattle.rules.proofs as in-rules
 use Rattle.trees.proofs as in-trees
 use Rattle.tree_check.proofs as in-check
@@ -48,33 +47,22 @@ pub record Calls : Type 0 where
   pub line-all : (rs h w : List ℕ) → WritesOnly w (rules.LineAll.LineAllSearched rs h w) rules.LineAll.paper (value 0)
   pub line-first : (rs h : List ℕ) → Fixes (rules.LineFirst.LineFirstSearched rs h)
   pub tree-all :
-      (rs ns es h w : List ℕ) →
-      WritesOnly w (trees.TreeAll.TreeAllSearched rs ns es h w) trees.TreeAll.paper (value 2)
+      (rs ns es h w : List ℕ) → WritesOnly w (trees.TreeAll.TreeAllSearched rs ns es h w) trees.TreeAll.paper (value 2)
   pub tree-first : (rs ns es h : List ℕ) → Fixes (trees.TreeFirst.TreeFirstSearched rs ns es h)
   pub tree-check : (rs ns es : List ℕ) → Fixes (tree-check.TreeCheck.TreeChecked rs ns es)
-  pub rules-write :
-      (rs w : List ℕ) → WritesOnly w (rule-file.Writing.RulesWritten rs w) text.Said.paper (value 0)
+  pub rules-write : (rs w : List ℕ) → WritesOnly w (rule-file.Writing.RulesWritten rs w) text.Said.paper (value 0)
   pub rules-read :
       (s w : List ℕ) →
       WritesOnly w (rule-file.Reading.RulesRead s w) rule-file.Reading.paper (λ vs. value 0 vs * rules.Words.ruleWords)
   pub tree-write :
-      (k : ℕ) (ns es w : List ℕ) →
-      WritesOnly w (tree-file.Writing.TreeWritten k ns es w) text.Said.paper (value 0)
+      (k : ℕ) (ns es w : List ℕ) → WritesOnly w (tree-file.Writing.TreeWritten k ns es w) text.Said.paper (value 0)
   pub tree-read :
       (s ns es : List ℕ) →
-      Fixes
-      (λ (x : tree-file.declared.read.Read.Read × List ℕ × List ℕ).
-      tree-file.Reading.TreeRead s ns es (x .0) (x .1) (x .2))
-  pub tree-read-nodes :
-      (s w es after : List ℕ) →
-      WritesOnly w (λ r v. tree-file.Reading.TreeRead s w es r v after) tree-file.Reading.paper
-      (λ vs. value 1 vs * trees.Words.nodeWords)
-  pub tree-read-pool :
-      (s ns w after : List ℕ) →
-      WritesOnly w (λ r v. tree-file.Reading.TreeRead s ns w r after v) tree-file.Reading.paper (value 2)
+      WritesBoth ns es (tree-file.Reading.TreeRead s ns es) tree-file.Reading.paper
+      (λ vs. value 1 vs * trees.Words.nodeWords) (value 2)
   pub reply : (bytes w : List ℕ) → WritesOnly w (text.Said.Said bytes w) text.Said.paper (value 0)
   pub take-list :
       (f : Option (List ℕ)) (w : List ℕ) → WritesOnly w (policy.TakeList.ListTaken f w) policy.TakeList.paper (value 0)
   pub take-tree :
       (f : Option (List ℕ)) (ns es : List ℕ) →
-      Fixes (λ (x : Taken × List ℕ × List ℕ). policy.TakeTree.TreeTaken f ns es (x .0) (x .1) (x .2))
+      WritesBoth ns es (policy.TakeTree.TreeTaken f ns es) policy.TakeTree.paper (value 0) (value 1)

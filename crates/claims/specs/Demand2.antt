@@ -44,8 +44,7 @@ pub record ByTree (rs ns es : List ℕ) : Type 0 where
       (h found : List ℕ) {r : TreeListed} {s : Listed} {v w : List ℕ} →
       trees.TreeAll.TreeAllSearched rs ns es h found r v → rules.LineAll.LineAllSearched rs h found s w → v ≡ w
   pub first :
-      (h : List ℕ) →
-      (trees.Search.reachVerdict rs ns es h giving firstOf (trees.Search.treeList rs ns es h)) ≡
+      (h : List ℕ) → (trees.Search.reachVerdict rs ns es h giving firstOf (trees.Search.treeList rs ns es h)) ≡
       ((rules.Good.listVerdict rs then fields.Headers.headerVerdict h) giving firstOf (matching rs h))
   pub completes : (h : List ℕ) → fields.Headers.Legal h → trees.Search.reachVerdict rs ns es h ≡ Fine
   pub lists : (h : List ℕ) → fields.Headers.Legal h → trees.Search.treeList rs ns es h ≡ matching rs h

@@ -3,17 +3,18 @@
 --   search h ms n c f a    header h: list ms and first f, by list and tree; n nodes, c compared, and a for the first
 --   check rs ns es r       the tree check of nodes ns and pool es for the list rs answers r
 use Prim.Native.Nat.{ℕ, _+_, _*_}
-use mathlib.Core.Path.{_≡_}
 use mathlib.Core.List.{List, [], _∷_}
 use lib.ListN.{length}
 use Rattle.facts.specs.Lists.{written}
 use Rattle.refusals.specs.declared.Refusal.the-variants.{NodeWrong, LeafLacksRule}
-use Rattle.rules.specs as list
 use Rattle.rules.specs.declared.line.Listed.the-variants as line
 use Rattle.rules.specs.declared.line.First.the-variants as first
-use Rattle.trees.specs as trees
+use Rattle.rules.specs.LineAll.{LineAllSearched}
+use Rattle.rules.specs.LineFirst.{LineFirstSearched}
 use Rattle.trees.specs.declared.search.TreeListed.the-variants as tree-all
 use Rattle.trees.specs.declared.search.TreeFirst.the-variants as tree-first
+use Rattle.trees.specs.TreeAll.{TreeAllSearched}
+use Rattle.trees.specs.TreeFirst.{TreeFirstSearched}
 use Rattle.tree_check.specs.declared.check.TreeAnswer.{TreeAnswer}
 use Rattle.tree_check.specs.declared.check.TreeAnswer.the-variants.{Refused, Accepted}
 use Rattle.tree_check.specs.TreeCheck.{TreeChecked}
@@ -37,7 +38,6 @@ tree = nodes 184549375 3
 abbrev pub pool : List ℕ
 pool = 2 ∷ 0 ∷ 1 ∷ 2 ∷ 2 ∷ []
 
--- the room of a search for all matches: three words
 abbrev pub room : List ℕ
 room = 0 ∷ 0 ∷ 0 ∷ []
 
@@ -48,11 +48,9 @@ pub data Row : Type 0 where
 abbrev pub AllHold : List Row → Type 0
 AllHold [] = Unit {0}
 AllHold (search h ms n c f a ∷ rows) =
-    ((list.Matching.matching rules h ≡ ms) × (trees.Search.treeList rules tree pool h ≡ ms) ×
-    list.LineAll.LineAllSearched rules h room (line.Found (length ms)) (written ms room) ×
-    list.LineFirst.LineFirstSearched rules h (first.Rule f) ×
-    trees.TreeAll.TreeAllSearched rules tree pool h room (tree-all.Found (length ms) n c) (written ms room) ×
-    trees.TreeFirst.TreeFirstSearched rules tree pool h (tree-first.Rule f n a)) × AllHold rows
+    (LineAllSearched rules h room (line.Found (length ms)) (written ms room) × LineFirstSearched rules h (first.Rule f) ×
+    TreeAllSearched rules tree pool h room (tree-all.Found (length ms) n c) (written ms room) ×
+    TreeFirstSearched rules tree pool h (tree-first.Rule f n a)) × AllHold rows
 AllHold (check rs ns es r ∷ rows) = TreeChecked rs ns es r × AllHold rows
 
 abbrev pub table : List Row

@@ -10,6 +10,7 @@
 --   WritesOnly w P paper size  a call that is lent the words w: its promise P settles the result and the lent words;
 --                              where it says a refusal they are as found; where it says the values vs, those past the
 --                              first `size vs` are
+--   WritesBoth v w P paper size more    the same of a call that is lent two outputs, and of each of them
 use Prim.Native.Nat.{ℕ}
 use mathlib.Core.Path.{_≡_}
 use mathlib.Core.List.{List}
@@ -45,3 +46,9 @@ pub record WritesOnly
   pub refused : (r : R) (after : List ℕ) (n p e : ℕ) → P r after → paper r ≡ refusal n p e → after ≡ w
   pub rest :
       (r : R) (after vs : List ℕ) → P r after → paper r ≡ success vs → drop (size vs) after ≡ drop (size vs) w
+
+abbrev pub WritesBoth :
+    {R : Type 0} → (v w : List ℕ) → (R → List ℕ → List ℕ → Type 0) → (R → Paper) → (List ℕ → ℕ) → (List ℕ → ℕ) → Type 0
+WritesBoth {R} v w P paper size more =
+    WritesOnly v (λ (r : R) x. (y : List ℕ) × P r x y) paper size ×
+    WritesOnly w (λ (r : R) y. (x : List ℕ) × P r x y) paper more

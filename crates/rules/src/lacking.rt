@@ -1,10 +1,10 @@
 // What a list of entries lacks: the rules whose box meets a box, and whose numbers are not among the entries.
 use crate::words::RULE_WORDS;
 use crate::words::field_of;
-use crate::words::wide;
 use fields::bounds::Bounds;
 use fields::field::field_meets;
 use fields::header::FIELDS;
+use lent::wide;
 ghost use Prim.Native.Nat.{_<_};
 ghost use mathlib.Core.Path.{_≡_};
 ghost use Rattle.facts.specs.Lists.{has};

@@ -5,10 +5,9 @@
 //   line::line_first      the lowest number that matches a header: 1, 2, 3
 //   check::list_verdict   what rule_check refuses, for the calls that take a list
 //   words::rule_there     whether a rule is wholly lent
-//   words::wide           a word as a usize
 //   matching::rule_matches    whether a rule is there and matches a header
 //   lacking::lowest_lacking   the lowest rule whose box meets a box and that a list of entries lacks
-// Each takes any words. Rests on facts, refusals and fields.
+// Each takes any words. Rests on facts, lent, refusals and fields.
 pub mod check;
 pub mod lacking;
 pub mod line;

@@ -85,10 +85,3 @@ fn word_of(rules: &[u32], r: usize, j: usize) -> u32
 {
     rules[r * RULE_WORDS + j]
 }
-
-// A word as a usize.
-pub fn wide(word: u32) -> usize
-    ensures { λ r. ⌜ r ≡ word ⌝ }
-{
-    word as usize
-}

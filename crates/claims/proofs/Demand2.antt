@@ -8,9 +8,8 @@ use Rattle.tree_check.specs.Serves.{Serves}
 use Rattle.tree_check.proofs.Accepts.{accepts-iff-serves}
 use Rattle.tree_check.proofs.Searches.{refuses-none, same-list, same-verdict, same-words, same-first}
 use Rattle.text.specs.Text.{good}
-use Rattle.rule_file.proofs.Back.{read-of-written as rules-back}
-use Rattle.rule_file.proofs.Exact.{written-of-read as rules-exact, read-below}
-use Rattle.rule_file.proofs.Cut.{cut-refused as rules-cut}
+use Rattle.rule_file.proofs.RoundTrips.{read-of-written as rules-back, written-of-read as rules-exact, good-of-read}
+use Rattle.rule_file.proofs.RoundTrips.{below-of-read as rules-below, cut-refused as rules-cut}
 use Rattle.tree_file.specs.TreeText.{Tree, tree, treeIn}
 use Rattle.tree_file.proofs.RoundTrips.{read-of-written as tree-back, written-of-read as tree-exact}
 use Rattle.tree_file.proofs.RoundTrips.{spelling-of-read, below-of-read, cut-refused as tree-cut}
@@ -40,7 +39,7 @@ pub rule-file-claim : RuleFile
 rule-file-claim =
     record {
       back = λ ws f. rules-back ws (f .0) (f .1);
-      exact = λ s ws e. let w = rules-exact s ws e in (w .0, (w .1, read-below s ws e));
+      exact = λ s ws e. (rules-exact s ws e, (good-of-read s ws e, rules-below s ws e));
       cut = rules-cut;
     }
 

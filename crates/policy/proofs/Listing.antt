@@ -22,7 +22,7 @@ use Rattle.rule_file.specs.declared.read.Read.the-variants as read
 use Rattle.rule_file.specs.RuleText.{rulesIn}
 use Rattle.rule_file.specs.Reading.{wordsIn, readVerdict, RulesRead}
 use Rattle.rule_file.specs.Reading as reader
-use Rattle.rule_file.proofs.Exact.{written-of-read}
+use Rattle.rule_file.proofs.RoundTrips.{good-of-read}
 use Rattle.policy.specs.declared.list.Listed.{Listed}
 use Rattle.policy.specs.declared.list.Listed.the-variants.{Refused, Words}
 use Rattle.policy.specs.Files.{listIn}
@@ -34,7 +34,7 @@ use Rattle.policy.specs.TakeList.{ListTaken}
 pub words-whole :
     (s : List ℕ) (a : Reading (List ℕ)) → rulesIn s ≡ a → length (wordsIn a) ≡ ruleCount (wordsIn a) * ruleWords
 words-whole s (refused why) e = refl
-words-whole s (good ws) e = omega (arith, fine-iff-good ws .0 (written-of-read s ws e .1) .whole)
+words-whole s (good ws) e = omega (arith, fine-iff-good ws .0 (good-of-read s ws e) .whole)
 
 module _ (s : List ℕ) {before after : List ℕ} {r : Read} (t : RulesRead s before r after) where
   -- its refusal
@@ -103,4 +103,4 @@ taken-list f {before} {after} {n} t = go (listIn f) refl
 pub list-good : (f : Option (List ℕ)) {rs : List ℕ} → listIn f ≡ good rs → listVerdict rs ≡ verdict.Fine
 unfolding listIn
 list-good none e = let z : _≡_ {A = ℕ} 0 1 = cc in absurd (omega arith)
-list-good (some s) {rs} e = written-of-read s rs e .1
+list-good (some s) {rs} e = good-of-read s rs e

@@ -21,7 +21,7 @@ use Rattle.tree_check.proofs.Accepts.{accepts-iff-serves}
 use Rattle.text.specs.Text.{Reading, good, refused}
 use Rattle.rule_file.specs.RuleText.{rulesIn}
 use Rattle.rule_file.specs.Reading as rule-file
-use Rattle.rule_file.proofs.Exact.{written-of-read}
+use Rattle.rule_file.proofs.RoundTrips.{good-of-read}
 use Rattle.tree_file.specs.TreeText.{Tree, tree, treeIn}
 use Rattle.tree_file.specs.Reading.{roomFor, readVerdict, nodesIn, poolIn}
 use Rattle.tree_file.proofs.RoundTrips.{spelling-of-read}
@@ -92,7 +92,7 @@ list-room (some s) {a} h = go (rulesIn s) refl
     go : (t : Reading (List ℕ)) → rulesIn s ≡ t → rule-file.readVerdict t a ≡ ownVerdict t
     go (refused why) e = refl
     go (good ws) e =
-        let few = fine-iff-good ws .0 (written-of-read s ws e .1) .few in room-fine-iff (length ws) a .1 (omega arith)
+        let few = fine-iff-good ws .0 (good-of-read s ws e) .few in room-fine-iff (length ws) a .1 (omega arith)
 
 -- words for the most nodes and for the longest pool are room for any tree
 pub tree-room :

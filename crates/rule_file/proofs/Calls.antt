@@ -24,9 +24,7 @@ use Rattle.rule_file.specs.declared.read.Read.the-variants.{Refused, Rul
 use Rattle.rule_file.specs.RuleText.{rulesIn, rulesText}
 use Rattle.rule_file.specs.Reading.{wordsIn, readVerdict, RulesRead}
 use Rattle.rule_file.specs.Writing.{writeVerdict, RulesWritten}
-use Rattle.rule_file.proofs.Back.{read-of-written}
-use Rattle.rule_file.proofs.Exact.{written-of-read}
-use Rattle.rule_file.proofs.Cut.{cut-refused}
+use Rattle.rule_file.proofs.RoundTrips.{read-of-written, written-of-read, good-of-read, cut-refused}
 use Rattle.rule_file.proofs.ReadAnswers.{read-apart}
 
 -- ---- after the writer
@@ -63,7 +61,7 @@ module _ (s : List ℕ) {before after : List ℕ} {n : ℕ} (r : RulesRead s bef
       go (refused why) e w left = refused-not-fine (w .0)
       go (good ws) e w left =
           let count : n ≡ ruleCount ws = (let z = w .1 in cc) in
-          let whole = fine-iff-good ws .0 (written-of-read s ws e .1) .whole in
+          let whole = fine-iff-good ws .0 (good-of-read s ws e) .whole in
           let size : length ws ≡ n * ruleWords = omega (arith, whole) in
           e ∙ rw left (ap good (sym (written-front ws before _ size)))
 
@@ -72,9 +70,9 @@ module _ (s : List ℕ) {before after : List ℕ} {n : ℕ} (r : RulesRead s bef
       {found left : List ℕ} {t : Written} → length s ≤ length found →
       RulesWritten (take (n * ruleWords) after) found t left → (t ≡ Bytes (length s)) × (left ≡ written s found)
   writes-back room q =
-      let w = written-of-read s (take (n * ruleWords) after) read-words in
-      writes-unique written-apart q
-      (writes-fine (then-fine _ (w .1) ∙ rw (w .0) (room-fine-iff _ _ .1 room)) (rw (w .0)) (rw (w .0)))
+      let e = written-of-read s _ read-words in
+      let fine = good-of-read s _ read-words in
+      writes-unique written-apart q (writes-fine (then-fine _ fine ∙ rw e (room-fine-iff _ _ .1 room)) (rw e) (rw e))
 
   -- cut before its end it is refused, with 10 and the number of whole lines left, and nothing is written
   pub cut-short :

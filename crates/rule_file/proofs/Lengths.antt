@@ -6,8 +6,9 @@ use mathlib.Core.Path.{_≡_, refl, ap}
 use lib.ListN.{length, drop, length-append}
 use Rattle.refusals.specs.declared.Verdict.the-variants.{Fine}
 use Rattle.text.specs.Words.{rulesWord, ruleWord, endWord, oneTab, ruleMarks}
-use Rattle.text.specs.Line.{printLine, EachUnder}
+use Rattle.text.specs.Line.{printLine, ended, EachUnder}
 use Rattle.text.specs.Text.{unlines}
+use Rattle.text.specs.EndLines.{endLine}
 use Rattle.text.proofs.Below.{below-drop, below-take}
 use Rattle.text.proofs.Sizes.{numberMost, line-size}
 use Rattle.text.proofs.Texts.{unlines-more}
@@ -15,7 +16,8 @@ use Rattle.rules.specs.Words.{ruleWords, mostRules, ruleCount}
 use Rattle.rules.specs.Good.{listVerdict}
 use Rattle.rules.proofs.Lists.{fine-iff-good}
 use Rattle.rule_file.specs.Records.{ruleValues, ruleAt}
-use Rattle.rule_file.specs.RuleText.{headLine, ruleLine, endLine, ended, ruleLines, rulesText}
+use Rattle.rule_file.specs.ListText.{firstLine, ruleLine, ruleLines}
+use Rattle.rule_file.specs.RuleText.{rulesFormat, rulesText}
 use Rattle.rule_file.proofs.Records.{values-below}
 use Rattle.rule_file.proofs.Writing.{text-parts}
 
@@ -26,15 +28,16 @@ line-length :
 line-length w ms vs b = simp length-append (omega (arith, line-size w ms vs b))
 
 rules-length :
-    (ws : List ℕ) (i : ℕ) → i ≤ mostRules → EachUnder (2 ^ 32) ws → length (unlines (ruleLines ws i)) ≤ i * 2 ^ 38
+    (ws : List ℕ) (i : ℕ) → i ≤ mostRules → EachUnder (2 ^ 32) ws →
+    length (unlines (ruleLines rulesFormat ws i)) ≤ i * 2 ^ 38
 unfolding ruleLines ruleValues unlines
 rules-length ws zero h b = omega arith
 rules-length ws (suc i) h b =
     let r : List ℕ = ruleAt ws i in
     let words = below-take (2 ^ 32) ruleWords (drop (i * ruleWords) ws) (below-drop (2 ^ 32) (i * ruleWords) ws b) in
     let one = line-length ruleWord ruleMarks (ruleValues i r) (values-below i r (omega arith) words) in
-    let e = unlines-more (ruleLines ws i) (ruleLine i r) in
-    let n = length-append (unlines (ruleLines ws i)) (ended (ruleLine i r)) in
+    let e = unlines-more (ruleLines rulesFormat ws i) (ruleLine rulesFormat i r) in
+    let n = length-append (unlines (ruleLines rulesFormat ws i)) (ended (ruleLine rulesFormat i r)) in
     omega (arith, ap length e, n, one, rules-length ws i (omega arith) b)
 
 -- the text of a good list of words of 32 bits has fewer than 2 ^ 63 bytes
@@ -46,6 +49,8 @@ text-fits ws e b =
     let first = line-length rulesWord oneTab (n ∷ []) (omega arith, tt) in
     let last = line-length endWord oneTab ((n + 1) ∷ []) (omega arith, tt) in
     let rules = rules-length ws n few b in
-    let front = length-append (ended (headLine n)) (unlines (ruleLines ws n)) in
-    let all = length-append (ended (headLine n) ++ unlines (ruleLines ws n)) (ended (endLine n)) in
-    omega (arith, ap length (text-parts ws n refl), first, last, rules, front, all)
+    let top : List ℕ = ended (firstLine rulesFormat n) in
+    let lines : List ℕ = unlines (ruleLines rulesFormat ws n) in
+    let front = length-append top lines in
+    let all = length-append (top ++ lines) (ended (endLine (n + 1))) in
+    omega (arith, ap length (text-parts rulesFormat ws n n refl), first, last, rules, front, all)

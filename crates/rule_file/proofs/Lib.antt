@@ -1,16 +1,18 @@
--- The laws of the rule file: rules in a list, one rule and its line, the two round trips, a text that is cut, the
--- length of a text, what the reader and the writer answer and leave, that promises are exact, and the calls after one
--- another.
+-- The laws of the rule file: words in parts, one rule and its line, the texts of lists over a format, the two round
+-- trips, a text that is cut, the length of a text, what the reader answers, and the calls after one another.
 pub mod Filled
+pub mod Parts
 pub mod Lists
 pub mod Records
+pub mod Formats
 pub mod Writing
 pub mod Back
-pub mod Begun
+pub mod SoFar
 pub mod Exact
 pub mod Cut
+pub mod RoundTrips
 pub mod Lengths
-pub mod Reader
+pub mod ReadLines
 pub mod Passes
 pub mod ReadAnswers
 pub mod Calls

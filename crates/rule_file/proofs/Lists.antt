@@ -4,10 +4,10 @@ use native.Mathlib.Omega.{arith}
 use native.Mathlib.Nat.{zero-add}
 use mathlib.Core.Bool.{true, false}
 use mathlib.Core.Logic.{_↔_}
-use mathlib.Core.List.{List, _++_}
+use mathlib.Core.List.{List}
 use mathlib.Core.Path.{_≡_, sym, ap, _∙_}
-use lib.ListN.{length, getD, take, drop, set, replicate, length-take, length-drop}
-use lib.Seq.{sets, take-append-le, drop-append-le, drop-at, take-all, take-length, take-add}
+use lib.ListN.{length, getD, take, drop, set, replicate}
+use lib.Seq.{sets, take-all}
 use lib.Seq.{getD-take, getD-drop}
 use Rattle.facts.proofs.Bools.{fails}
 use Rattle.facts.proofs.Setting.{sets-more}
@@ -21,26 +21,7 @@ use Rattle.rules.proofs.Forms.{good-same}
 use Rattle.rules.proofs.Lists.{GoodList, fine-iff-good}
 use Rattle.rule_file.specs.Records.{ruleAt}
 use Rattle.rule_file.proofs.Filled.{filled-all}
-
--- what follows the words of a rule does not change it
-pub at-append : (ws x : List ℕ) (i : ℕ) → i * ruleWords + ruleWords ≤ length ws → ruleAt (ws ++ x) i ≡ ruleAt ws i
-at-append ws x i h =
-    rw (drop-append-le (i * ruleWords) ws x (omega arith))
-    (take-append-le ruleWords (drop (i * ruleWords) ws) x (simp length-drop (omega arith)))
-
--- ten words behind those of i rules are rule i
-pub at-last : (ws x : List ℕ) (i : ℕ) → length ws ≡ i * ruleWords → length x ≡ ruleWords → ruleAt (ws ++ x) i ≡ x
-at-last ws x i h l = rw (drop-at ws x (i * ruleWords) h) (ap (λ (k : ℕ). take k x) (sym l) ∙ take-length x)
-
--- a rule that is there has ten words
-pub at-length : (ws : List ℕ) (i : ℕ) → i * ruleWords + ruleWords ≤ length ws → length (ruleAt ws i) ≡ ruleWords
-at-length ws i h = simp (length-take, length-drop) (omega arith)
-
--- the words of the rules below i and those of rule i are the words of the rules below i + 1
-pub at-next : (ws : List ℕ) (i : ℕ) → take (i * ruleWords) ws ++ ruleAt ws i ≡ take ((i + 1) * ruleWords) ws
-at-next ws i =
-    let e : i * ruleWords + ruleWords ≡ (i + 1) * ruleWords = omega arith in
-    sym (take-add (i * ruleWords) ruleWords ws) ∙ ap (λ (k : ℕ). take k ws) e
+use Rattle.rule_file.proofs.Parts.{at-length}
 
 -- where the first j words of rule i are read into ten words, reading word j makes it the first j + 1
 pub words-more :
@@ -50,7 +31,7 @@ pub words-more :
 words-more rule ws i j e h there =
     let k : ℕ = i * ruleWords in
     let same : getD (ruleAt ws i) j 0 ≡ wordOf ws i j = getD-take ruleWords (drop k ws) j 0 h ∙ getD-drop k ws j 0 in
-    let ten : j < length (ruleAt ws i) = rw (at-length ws i there) h in
+    let ten : j < length (ruleAt ws i) = rw (at-length ruleWords ws i there) h in
     let more = sets-more (replicate ruleWords 0) rule (ruleAt ws i) 0 j e ten in
     rw (← same) (ap (λ (x : ℕ). set rule x (getD (ruleAt ws i) j 0)) (sym (zero-add j)) ∙ more)
 
@@ -59,7 +40,7 @@ pub words-all :
     (rule ws : List ℕ) (i j : ℕ) → rule ≡ sets (replicate ruleWords 0) 0 (take j (ruleAt ws i)) → ruleWords ≤ j →
     i * ruleWords + ruleWords ≤ length ws → rule ≡ ruleAt ws i
 words-all rule ws i j e h there =
-    let ten = at-length ws i there in
+    let ten = at-length ruleWords ws i there in
     e ∙ ap (sets (replicate ruleWords 0) 0) (take-all j (ruleAt ws i) (omega arith)) ∙
     filled-all ruleWords (ruleAt ws i) ten
 

@@ -1,39 +1,42 @@
--- The pass over the lines of the rules, rule by rule. `Reached` is the invariant: the rules below i are read, their
+-- The pass over the lines of the rules, rule by rule. `ReadSoFar` is the invariant: the rules below i are read, their
 -- words are put, and the rest decides.
-use Prim.Native.Nat.{ℕ, _+_, _*_, _≤_, _<_}
+use Prim.Native.Nat.{ℕ, _+_, _*_, _^_, _≤_, _<_}
 use native.Mathlib.Omega.{arith}
+use mathlib.Core.Bool.{true}
 use mathlib.Core.List.{List, [], _++_}
-use mathlib.Core.Path.{_≡_, refl, sym, ap, _∙_}
+use mathlib.Core.Path.{_≡_, refl, sym, ap, subst, _∙_}
 use lib.ListN.{length, length-append}
 use lib.Seq.{sets}
+use borrow.Author.Tests.{le-ltb}
 use Rattle.facts.proofs.Setting.{sets-append}
 use Rattle.refusals.specs.declared.Refusal.{Refusal}
 use Rattle.text.specs.declared.cursor.Cursor.{Cursor}
 use Rattle.text.specs.Text.{refused}
 use Rattle.text.specs.Onward.{Stands}
+use Rattle.text.specs.declared.end.Ending.the-variants as end
+use Rattle.text.specs.EndLines.{endLineAt}
+use Rattle.text.proofs.EndLines.{EndComes, end-comes}
 use Rattle.rules.specs.Words.{ruleWords, mostRules}
-use Rattle.rule_file.specs.declared.read.Read.{Read}
-use Rattle.rule_file.specs.declared.read.Read.the-variants.{Refused, Rules}
-use Rattle.rule_file.specs.RuleText.{rules, rulesFrom}
-use Rattle.rule_file.specs.ReadSteps.{restFrom, Ruled, EndIs, PassIs}
+use Rattle.rule_file.specs.ListText.{within, over, finish}
+use Rattle.rule_file.specs.ReadSteps.{rulesStep, rulesFrom, restFrom, RuleStored, RulesStored}
 
-pub record Reached (s old : List ℕ) (n : ℕ) (first : Cursor) (i : ℕ) (c : Cursor) (new : List ℕ) : Type 0 where
+pub record ReadSoFar (s old : List ℕ) (n : ℕ) (first : Cursor) (i : ℕ) (c : Cursor) (new : List ℕ) : Type 0 where
   pub words : List ℕ
-  pub left : restFrom n s first ≡ rulesFrom (rules n i words) s c
+  pub left : restFrom n s first ≡ rulesFrom (within n i words) s c
   pub size : length words ≡ i * ruleWords
   pub put : new ≡ sets old 0 words
   pub stands : Stands s c
   pub most : i ≤ n
 
 -- before the first rule nothing is read, and all is left
-pub reached-first : {s old : List ℕ} {n : ℕ} {c : Cursor} → Stands s c → Reached s old n c 0 c old
-reached-first h = record { words = []; left = refl; size = refl; put = refl; stands = h; most = omega arith }
+pub so-far-first : {s old : List ℕ} {n : ℕ} {c : Cursor} → Stands s c → ReadSoFar s old n c 0 c old
+so-far-first h = record { words = []; left = refl; size = refl; put = refl; stands = h; most = omega arith }
 
-module _ {s old new : List ℕ} {n i : ℕ} {first c : Cursor} (g : Reached s old n first i c new) where
+module _ {s old new : List ℕ} {n i : ℕ} {first c : Cursor} (g : ReadSoFar s old n first i c new) where
   -- the line of a rule leads to the next
-  pub reached-step :
-      {next : List ℕ} {d : Cursor} → i < n → Ruled s c i new next d → Reached s old n first (i + 1) d next
-  reached-step h r =
+  pub so-far-step :
+      {next : List ℕ} {d : Cursor} → i < n → RuleStored s c i new next d → ReadSoFar s old n first (i + 1) d next
+  so-far-step h r =
       let e : i * ruleWords ≡ 0 + length (g .words) = omega (arith, g .size) in
       record {
         words = g .words ++ r .words;
@@ -45,28 +48,34 @@ module _ {s old new : List ℕ} {n i : ℕ} {first c : Cursor} (g : Reached s ol
       }
 
   -- a refused line of a rule refuses the text
-  pub reached-refused :
-      {why : Refusal} → i < n → ((m : ℕ) (ws : List ℕ) → i < m → rulesFrom (rules m i ws) s c ≡ refused why) →
+  pub so-far-refused :
+      {why : Refusal} → i < n → ((m : ℕ) (ws : List ℕ) → i < m → rulesFrom (within m i ws) s c ≡ refused why) →
       restFrom n s first ≡ refused why
-  reached-refused h r = g .left ∙ r n (g .words) h
+  so-far-refused h r = g .left ∙ r n (g .words) h
 
-  -- behind the last rule the end line decides
-  pub reached-last : (r : Read) → n ≤ i → n ≤ mostRules → EndIs s c n r → PassIs (restFrom n s first) old new r
-  reached-last r h few e = go r e
-    where
-      same : i ≡ n
-      same = omega (arith, g .most)
+  module _ (small : length s < 2 ^ 63) (h : n ≤ i) where
+    -- behind the last rule the end line decides
+    last-comes : EndComes (restFrom n s first) (g .words) (endLineAt s c true (n + 1))
+    last-comes =
+        let e : i ≡ n = omega (arith, g .most) in
+        let there = g .left ∙ ap (λ (k : ℕ). rulesFrom (within n k (g .words)) s c) e in
+        rw there
+        (end-comes rulesStep finish small (g .stands) (within n n (g .words)) (over (g .words)) (g .words) true
+        (n + 1) refl (λ l. rw (le-ltb n n (omega arith))) refl (λ l. refl))
 
-      there : restFrom n s first ≡ rulesFrom (rules n n (g .words)) s c
-      there = g .left ∙ ap (λ (k : ℕ). rulesFrom (rules n k (g .words)) s c) same
+    -- where it is refused, so is the text
+    pub so-far-ends-not :
+        {why : Refusal} → end.Refused why ≡ endLineAt s c true (n + 1) → restFrom n s first ≡ refused why
+    so-far-ends-not q = subst (EndComes (restFrom n s first) (g .words)) (sym q) last-comes
 
-      go : (r : Read) → EndIs s c n r → PassIs (restFrom n s first) old new r
-      go (Refused why) q = there ∙ q (g .words)
-      go (Rules m) q =
-          record {
-            words = g .words;
-            read = there ∙ q .1 (g .words);
-            size = omega (arith, g .size, q .0);
-            few = omega (arith, q .0);
-            put = g .put;
-          }
+    -- where the text is over, all rules are stored
+    pub so-far-ends :
+        n ≤ mostRules → end.Over ≡ endLineAt s c true (n + 1) → RulesStored (restFrom n s first) old new n
+    so-far-ends few q =
+        record {
+          words = g .words;
+          says = subst (EndComes (restFrom n s first) (g .words)) (sym q) last-comes;
+          size = omega (arith, g .size, g .most);
+          few = few;
+          put = g .put;
+        }

@@ -22,7 +22,7 @@ use Rattle.rule_file.specs.declared.read.Read.{Read}
 use Rattle.rule_file.specs.declared.read.Read.the-variants.{Refused, Rules}
 use Rattle.rule_file.specs.RuleText.{rulesIn}
 use Rattle.rule_file.specs.Reading.{paper, wordsIn, RulesRead}
-use Rattle.rule_file.specs.ReadSteps.{Passed, PassIs}
+use Rattle.rule_file.specs.ReadSteps.{RulesStored, PassRead}
 
 -- the paper tells the answers apart
 pub read-apart : Apart paper
@@ -39,25 +39,25 @@ module _ (s kept : List ℕ) {before : List ℕ} (none : length kept ≡ 0) wher
   pub text-refused : {why : Refusal} → rulesIn s ≡ refused why → RulesRead s before (Refused why) (kept ++ before)
   text-refused {why} e = writes-refused {why = why} (rw e) refl same
 
-  module _ {old : List ℕ} {n : ℕ} (p : Passed (rulesIn s) old kept n) where
+  module _ {old : List ℕ} {n : ℕ} (p : RulesStored (rulesIn s) old kept n) where
     -- words for which there is no room are refused with their number
     pub room-refused :
         {needed : ℕ} → needed ≡ n * ruleWords → length (kept ++ before) < needed →
         RulesRead s before (Refused (OutputShort needed 0)) (kept ++ before)
     room-refused {needed} e h =
         let short = room-short _ (length before) (e ∙ sym (p .size)) (rw same at h) in
-        writes-refused {why = OutputShort needed 0} (rw (p .read) (sym short)) refl same
+        writes-refused {why = OutputShort needed 0} (rw (p .says) (sym short)) refl same
 
     -- with room for them, the second pass is what the reader answers
     pub read-again :
         {after : List ℕ} (r : Read) → n * ruleWords ≤ length (kept ++ before) →
-        PassIs (rulesIn s) (kept ++ before) after r → RulesRead s before r after
-    read-again (Refused why) h q = refused-good (sym q ∙ p .read)
+        PassRead (rulesIn s) (kept ++ before) after r → RulesRead s before r after
+    read-again (Refused why) h q = refused-good (sym q ∙ p .says)
     read-again {after} (Rules m) h q =
         let ws : List ℕ = q .words in
-        let words : p .words ≡ ws = (let e = sym (p .read) ∙ q .read in cc) in
+        let words : p .words ≡ ws = (let e = sym (p .says) ∙ q .says in cc) in
         let room : length ws ≤ length before = omega (arith, p .size, ap length words, ap length same) in
         let count : m ≡ ruleCount ws = omega (arith, q .size) in
         let put = q .put ∙ ap (λ (l : List ℕ). sets l 0 ws) same ∙ in-front ws before room in
-        writes-fine (rw (q .read) (room-fine-iff _ _ .1 room)) (rw (q .read) (ap (λ (k : ℕ). success (k ∷ [])) count))
-        (put ∙ ap (λ (a : _). written (wordsIn a) before) (sym (q .read)))
+        writes-fine (rw (q .says) (room-fine-iff _ _ .1 room)) (rw (q .says) (ap (λ (k : ℕ). success (k ∷ [])) count))
+        (put ∙ ap (λ (a : _). written (wordsIn a) before) (sym (q .says)))

@@ -18,7 +18,7 @@ use Rattle.text.proofs.Below.{below-at, below-append}
 use Rattle.rules.specs.Words.{ruleWords}
 use Rattle.rules.specs.Good as rules
 use Rattle.rule_file.specs.Records.{sourceFits, destinationFits, sourceOf}
-use Rattle.rule_file.specs.Records.{ruleOf, ruleValues, ruleTest}
+use Rattle.rule_file.specs.Records.{ruleOf, ruleValues, ruleFits}
 
 -- the number of the line is i, the octets fit, and the rule is good
 pub record Tested (i : ℕ) (v : List ℕ) : Type 0 where
@@ -28,8 +28,8 @@ pub record Tested (i : ℕ) (v : List ℕ) : Type 0 where
   pub rule : rules.good (ruleOf v) 0 ≡ true
 
 -- numbers that pass the test have the rule's number, octets, and the words of a good rule
-pub tested : (i : ℕ) (v : List ℕ) → ruleTest i v ≡ true → Tested i v
-unfolding ruleTest
+pub tested : (i : ℕ) (v : List ℕ) → ruleFits i v ≡ true → Tested i v
+unfolding ruleFits
 tested i v h =
     let a : Bool = eqb (getD v 0 0) i in
     let h₁ = both (a && sourceFits v && destinationFits v) (rules.good (ruleOf v) 0) h in
@@ -40,24 +40,24 @@ tested i v h =
 -- ---- the tests, one by one
 
 -- another number fails the test
-pub number-fails : (i : ℕ) (v : List ℕ) → (getD v 0 0 ≡ i → ⊥) → false ≡ ruleTest i v
-unfolding ruleTest
+pub number-fails : (i : ℕ) (v : List ℕ) → (getD v 0 0 ≡ i → ⊥) → false ≡ ruleFits i v
+unfolding ruleFits
 number-fails i v h = rw (ne-eqb (getD v 0 0) i h)
 
 module _ (i : ℕ) (v : List ℕ) (n : getD v 0 0 ≡ i) where
   -- a source that is not of octets fails the test
-  pub source-fails : sourceFits v ≡ false → false ≡ ruleTest i v
-  unfolding ruleTest
+  pub source-fails : sourceFits v ≡ false → false ≡ ruleFits i v
+  unfolding ruleFits
   source-fails s = rw (eq-eqb (getD v 0 0) i n, s)
 
   -- a destination that is not of octets fails the test
-  pub destination-fails : sourceFits v ≡ true → destinationFits v ≡ false → false ≡ ruleTest i v
-  unfolding ruleTest
+  pub destination-fails : sourceFits v ≡ true → destinationFits v ≡ false → false ≡ ruleFits i v
+  unfolding ruleFits
   destination-fails s d = rw (eq-eqb (getD v 0 0) i n, s, d)
 
   -- the number and the octets being right, the rule decides
-  pub rule-decides : sourceFits v ≡ true → destinationFits v ≡ true → rules.good (ruleOf v) 0 ≡ ruleTest i v
-  unfolding ruleTest
+  pub rule-decides : sourceFits v ≡ true → destinationFits v ≡ true → rules.good (ruleOf v) 0 ≡ ruleFits i v
+  unfolding ruleFits
   rule-decides s d = rw (eq-eqb (getD v 0 0) i n, s, d)
 
 -- ---- the words and the numbers
@@ -102,8 +102,8 @@ rule-back i r l b =
 -- the numbers of a good rule's line pass the test
 pub test-back :
     (i : ℕ) (r : List ℕ) → length r ≡ ruleWords → EachUnder (2 ^ 32) r → rules.good r 0 ≡ true →
-    ruleTest i (ruleValues i r) ≡ true
-unfolding ruleTest ruleValues
+    ruleFits i (ruleValues i r) ≡ true
+unfolding ruleFits ruleValues
 test-back i r l b g =
     let source = octets-of-fit (getD r 0 0) (below-at (2 ^ 32) r 0 (omega arith) b) in
     let destination = octets-of-fit (getD r 2 0) (below-at (2 ^ 32) r 2 (omega arith) b) in

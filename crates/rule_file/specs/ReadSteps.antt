@@ -1,64 +1,69 @@
--- What the steps of the reader find, line by line. Definitions only.
---   restFrom n s c            what reading the text s from the cursor c on comes to, n rules being announced
---   HeadIs s r                r is what the first line says, and where the rules begin
---   Ruled s c i old new d     the line of rule i stands at c, its words were put, and d is the cursor behind it
---   RuleIs s c i old new r    r is that cursor, or the refusal there, whatever was read before
---   EndIs s c n r             r is what the end line after n rules comes to, whatever their words
---   Passed a old new n        the reading a came to n rules, and their words were put, as far as there is room
---   PassIs a old new r        r is what the reading a comes to
+-- What the steps of the rule reader find, line by line. Definitions only.
+--   rulesStep st l              what the line l makes of the state st, or that it is wrong
+--   rulesFrom st s c            what reading the text s from the cursor c on comes to, from the state st on
+--   restFrom n s c              the same where n rules are announced, and none is read
+--   FirstLineRead s r           r is what the first line says, and where the rules begin
+--   RuleStored s c i old new d  the line of rule i stands at c, its words are stored, and d is the cursor behind it
+--   RuleLineRead s c i old new r    r is that cursor, or the refusal there, whatever was read before
+--   RulesStored a old new n     the reading a came to n rules, and their words are stored, as far as there is room
+--   PassRead a old new r        r is what the reading a comes to
 use Prim.Native.Nat.{ℕ, _+_, _*_, _≤_, _<_}
 use mathlib.Core.List.{List, [], _++_}
+use mathlib.Core.Option.{Option}
 use mathlib.Core.Path.{_≡_}
 use lib.ListN.{length}
 use lib.Seq.{sets}
 use Rattle.text.specs.declared.cursor.Cursor.{Cursor}
 use Rattle.text.specs.declared.cursor.Step.{Step}
-use Rattle.text.specs.declared.cursor.Step.the-variants as step
+use Rattle.text.specs.declared.cursor.Step.the-variants as said
 use Rattle.text.specs.Text.{Reading, good, refused}
 use Rattle.text.specs.Onward.{Stands}
 use Rattle.rules.specs.Words.{ruleWords, mostRules}
 use Rattle.rule_file.specs.declared.read.Read.{Read}
 use Rattle.rule_file.specs.declared.read.Read.the-variants.{Refused, Rules}
-use Rattle.rule_file.specs.declared.read.Head.{Head}
-use Rattle.rule_file.specs.declared.read.Head.the-variants as head
-use Rattle.rule_file.specs.RuleText.{rules, rulesFrom, rulesIn}
+use Rattle.rule_file.specs.declared.read.First.{First}
+use Rattle.rule_file.specs.declared.read.First.the-variants as first
+use Rattle.rule_file.specs.ListText.{State, within, step, listFrom}
+use Rattle.rule_file.specs.RuleText.{rulesFormat, rulesIn}
+
+abbrev pub rulesStep : State → List ℕ → Option State
+rulesStep st l = step rulesFormat st l
+
+abbrev pub rulesFrom : State → List ℕ → Cursor → Reading (List ℕ)
+rulesFrom st s c = listFrom rulesFormat st s c
 
 abbrev pub restFrom : ℕ → List ℕ → Cursor → Reading (List ℕ)
-restFrom n s c = rulesFrom (rules n 0 []) s c
+restFrom n s c = rulesFrom (within n 0 []) s c
 
-pub record Headed (s : List ℕ) (n : ℕ) (d : Cursor) : Type 0 where
+pub record RulesAnnounced (s : List ℕ) (n : ℕ) (d : Cursor) : Type 0 where
   pub moved : rulesIn s ≡ restFrom n s d
   pub stands : Stands s d
   pub few : n ≤ mostRules
 
-abbrev pub HeadIs : List ℕ → Head → Type 0
-HeadIs s (head.Refused why) = rulesIn s ≡ refused why
-HeadIs s (head.Rules n d) = Headed s n d
+abbrev pub FirstLineRead : List ℕ → First → Type 0
+FirstLineRead s (first.Refused why) = rulesIn s ≡ refused why
+FirstLineRead s (first.Announces n d) = RulesAnnounced s n d
 
-pub record Ruled (s : List ℕ) (c : Cursor) (i : ℕ) (old new : List ℕ) (d : Cursor) : Type 0 where
+pub record RuleStored (s : List ℕ) (c : Cursor) (i : ℕ) (old new : List ℕ) (d : Cursor) : Type 0 where
   pub words : List ℕ
   pub moved :
-      (n : ℕ) (ws : List ℕ) → i < n → rulesFrom (rules n i ws) s c ≡ rulesFrom (rules n (i + 1) (ws ++ words)) s d
+      (n : ℕ) (ws : List ℕ) → i < n → rulesFrom (within n i ws) s c ≡ rulesFrom (within n (i + 1) (ws ++ words)) s d
   pub size : length words ≡ ruleWords
   pub put : new ≡ sets old (i * ruleWords) words
   pub stands : Stands s d
 
-abbrev pub RuleIs : List ℕ → Cursor → ℕ → List ℕ → List ℕ → Step → Type 0
-RuleIs s c i old new (step.Refused why) =
-    (n : ℕ) (ws : List ℕ) → i < n → rulesFrom (rules n i ws) s c ≡ refused why
-RuleIs s c i old new (step.Next d) = Ruled s c i old new d
+abbrev pub RuleLineRead : List ℕ → Cursor → ℕ → List ℕ → List ℕ → Step → Type 0
+RuleLineRead s c i old new (said.Refused why) =
+    (n : ℕ) (ws : List ℕ) → i < n → rulesFrom (within n i ws) s c ≡ refused why
+RuleLineRead s c i old new (said.Next d) = RuleStored s c i old new d
 
-abbrev pub EndIs : List ℕ → Cursor → ℕ → Read → Type 0
-EndIs s c n (Refused why) = (ws : List ℕ) → rulesFrom (rules n n ws) s c ≡ refused why
-EndIs s c n (Rules m) = (m ≡ n) × ((ws : List ℕ) → rulesFrom (rules n n ws) s c ≡ good ws)
-
-pub record Passed (a : Reading (List ℕ)) (old new : List ℕ) (n : ℕ) : Type 0 where
+pub record RulesStored (a : Reading (List ℕ)) (old new : List ℕ) (n : ℕ) : Type 0 where
   pub words : List ℕ
-  pub read : a ≡ good words
+  pub says : a ≡ good words
   pub size : length words ≡ n * ruleWords
   pub few : n ≤ mostRules
   pub put : new ≡ sets old 0 words
 
-abbrev pub PassIs : Reading (List ℕ) → List ℕ → List ℕ → Read → Type 0
-PassIs a old new (Refused why) = a ≡ refused why
-PassIs a old new (Rules n) = Passed a old new n
+abbrev pub PassRead : Reading (List ℕ) → List ℕ → List ℕ → Read → Type 0
+PassRead a old new (Refused why) = a ≡ refused why
+PassRead a old new (Rules n) = RulesStored a old new n

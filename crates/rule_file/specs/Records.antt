@@ -1,16 +1,17 @@
 -- One rule, as the numbers of its line and as its ten words. Definitions only.
 --   ruleOf v          the ten words of the rule whose line has the numbers v; an address that is not of octets is 0
 --   ruleValues i r    the numbers of the line of rule i, whose ten words are r
---   ruleTest i v      the numbers v are those of rule i: its number is i, the octets fit, and the rule is good
+--   ruleFits i v      the numbers v are those of rule i: its number is i, the octets fit, and the rule is good
 --   ruleAt ws i       the ten words of rule i of the list ws
-use Prim.Native.Nat.{ℕ, _*_}
+use Prim.Native.Nat.{ℕ}
 use mathlib.Core.Bool.{Bool, _&&_}
 use mathlib.Core.List.{List, [], _∷_, _++_}
-use lib.ListN.{getD, take, drop}
+use lib.ListN.{getD}
 use lib.Dec.{eqb}
 use Rattle.text.specs.Addresses.{octetsFit, addressOf, octetsOf}
 use Rattle.rules.specs.Words.{ruleWords}
 use Rattle.rules.specs.Good as rules
+use Rattle.rule_file.specs.ListText.{partAt}
 
 abbrev pub sourceFits : List ℕ → Bool
 sourceFits v = octetsFit (getD v 1 0) (getD v 2 0) (getD v 3 0) (getD v 4 0)
@@ -35,8 +36,8 @@ ruleValues i r =
     ((getD r 1 0 ∷ octetsOf (getD r 2 0)) ++
     (getD r 3 0 ∷ getD r 4 0 ∷ getD r 5 0 ∷ getD r 6 0 ∷ getD r 7 0 ∷ getD r 8 0 ∷ getD r 9 0 ∷ []))
 
-unfoldable pub ruleTest : ℕ → List ℕ → Bool
-ruleTest i v = eqb (getD v 0 0) i && sourceFits v && destinationFits v && rules.good (ruleOf v) 0
+unfoldable pub ruleFits : ℕ → List ℕ → Bool
+ruleFits i v = eqb (getD v 0 0) i && sourceFits v && destinationFits v && rules.good (ruleOf v) 0
 
 abbrev pub ruleAt : List ℕ → ℕ → List ℕ
-ruleAt ws i = take ruleWords (drop (i * ruleWords) ws)
+ruleAt ws i = partAt ruleWords ws i

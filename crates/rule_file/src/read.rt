@@ -1,14 +1,15 @@
 // The reader of the rule file: the first line, the rules in order, the end line and nothing after it.
-use crate::record::put_words;
+use crate::record::rule_fits;
 use crate::record::rule_of;
-use crate::record::rule_test;
+use crate::record::store_rule;
 use refusals::Refusal;
 use rules::words::MOST_RULES;
 use rules::words::RULE_WORDS;
 use text::cursor::Cursor;
 use text::cursor::Step;
 use text::cursor::wrong;
-use text::words::END;
+use text::end::Ending;
+use text::end::end_line;
 use text::words::ONE_TAB;
 use text::words::RULE;
 use text::words::RULE_MARKS;
@@ -18,7 +19,7 @@ ghost use Rattle.rules.specs.Words.{mostRules};
 ghost use Rattle.text.specs.Onward.{Stands};
 ghost use Rattle.rule_file.specs.RuleText.{rulesIn};
 ghost use Rattle.rule_file.specs.Reading.{RulesRead};
-ghost use Rattle.rule_file.specs.ReadSteps.{restFrom, HeadIs, RuleIs, EndIs, PassIs};
+ghost use Rattle.rule_file.specs.ReadSteps.{restFrom, FirstLineRead, RuleLineRead, PassRead};
 
 pub enum Read {
     Refused(Refusal),
@@ -26,9 +27,9 @@ pub enum Read {
 }
 
 // What the first line says: how many rules follow, and where they begin.
-pub enum Head {
+pub enum First {
     Refused(Refusal),
-    Rules(usize, Cursor),
+    Announces(usize, Cursor),
 }
 
 // The words of the rules that a text holds, from the front of `rules` on; the rest of `rules` is as found. The text is
@@ -50,30 +51,30 @@ pub fn rules_read(text: &[u8], rules: &mut [u32]) -> Read
 
 // One pass: judges the text, counts its rules, and puts their words as far as there is room.
 fn read_pass(text: &[u8], rules: &mut [u32]) -> Read
-    ensures { λ r. ⌜ PassIs (rulesIn (now (text .entry))) (now (rules .entry)) (now (rules .exit)) r ⌝ }
+    ensures { λ r. ⌜ PassRead (rulesIn (now (text .entry))) (now (rules .entry)) (now (rules .exit)) r ⌝ }
 {
     match first_line(text) {
-        Head::Refused(why) => Read::Refused(why),
-        Head::Rules(n, c) => rule_lines(text, c, n, rules),
+        First::Refused(why) => Read::Refused(why),
+        First::Announces(n, c) => rule_lines(text, c, n, rules),
     }
 }
 
 // The first line.
-fn first_line(text: &[u8]) -> Head
-    ensures { λ r. ⌜ HeadIs (now (text .entry)) r ⌝ }
+fn first_line(text: &[u8]) -> First
+    ensures { λ r. ⌜ FirstLineRead (now (text .entry)) r ⌝ }
 {
     let c = Cursor { at: 0, lines: 0 };
     let read = c.line(text, &RULES, &ONE_TAB);
     let said = read.said;
     let values = read.values;
     match said {
-        Step::Refused(why) => Head::Refused(why),
+        Step::Refused(why) => First::Refused(why),
         Step::Next(d) => {
             let n = values[0] as usize;
             if MOST_RULES < n {
-                return Head::Refused(wrong(0));
+                return First::Refused(wrong(0));
             }
-            Head::Rules(n, d)
+            First::Announces(n, d)
         }
     }
 }
@@ -81,7 +82,7 @@ fn first_line(text: &[u8]) -> Head
 // The lines of `n` rules, and the end line.
 fn rule_lines(text: &[u8], c: Cursor, n: usize, rules: &mut [u32]) -> Read
     requires { ⌜ Stands (now text) c × (n ≤ mostRules) ⌝ }
-    ensures { λ r. ⌜ PassIs (restFrom n (now (text .entry)) c) (now (rules .entry)) (now (rules .exit)) r ⌝ }
+    ensures { λ r. ⌜ PassRead (restFrom n (now (text .entry)) c) (now (rules .entry)) (now (rules .exit)) r ⌝ }
 {
     let mut at = c.at;
     let mut lines = c.lines;
@@ -97,13 +98,16 @@ fn rule_lines(text: &[u8], c: Cursor, n: usize, rules: &mut [u32]) -> Read
         }
         i += 1;
     }
-    end_line(text, Cursor { at, lines }, n)
+    match end_line(text, Cursor { at, lines }, true, n + 1) {
+        Ending::Refused(why) => Read::Refused(why),
+        Ending::Over => Read::Rules { rules: n },
+    }
 }
 
 // The line of rule `i`, whose words are put.
 fn rule_line(text: &[u8], c: Cursor, i: usize, rules: &mut [u32]) -> Step
     requires { ⌜ Stands (now text) c × (i < mostRules) ⌝ }
-    ensures { λ r. ⌜ RuleIs (now (text .entry)) c i (now (rules .entry)) (now (rules .exit)) r ⌝ }
+    ensures { λ r. ⌜ RuleLineRead (now (text .entry)) c i (now (rules .entry)) (now (rules .exit)) r ⌝ }
 {
     let lines = c.lines;
     let read = c.line(text, &RULE, &RULE_MARKS);
@@ -112,35 +116,11 @@ fn rule_line(text: &[u8], c: Cursor, i: usize, rules: &mut [u32]) -> Step
     match said {
         Step::Refused(why) => Step::Refused(why),
         Step::Next(d) => {
-            if !rule_test(i, values) {
+            if !rule_fits(i, values) {
                 return Step::Refused(wrong(lines));
             }
-            put_words(rules, i, rule_of(values));
+            store_rule(rules, i, rule_of(values));
             Step::Next(d)
-        }
-    }
-}
-
-// The end line after `n` rules, with the number of lines before it. Nothing stands after it.
-fn end_line(text: &[u8], c: Cursor, n: usize) -> Read
-    requires { ⌜ Stands (now text) c × (n ≤ mostRules) ⌝ }
-    ensures { λ r. ⌜ EndIs (now (text .entry)) c n r ⌝ }
-{
-    let lines = c.lines;
-    let read = c.line(text, &END, &ONE_TAB);
-    let said = read.said;
-    let values = read.values;
-    match said {
-        Step::Refused(why) => Read::Refused(why),
-        Step::Next(d) => {
-            let at = d.at;
-            if values[0] as usize != n + 1 {
-                return Read::Refused(wrong(lines));
-            }
-            if at < text.len() {
-                return Read::Refused(wrong(d.lines));
-            }
-            Read::Rules { rules: n }
         }
     }
 }

@@ -4,18 +4,20 @@ use rules::check::list_verdict;
 use rules::words::RULE_WORDS;
 use text::address::address_of;
 use text::address::octets_fit;
+use text::store::store;
+use text::words::MOST_FIELDS;
 ghost use Prim.Native.Nat.{_+_, _*_, _≤_, _<_};
 ghost use mathlib.Core.Path.{_≡_};
-ghost use lib.ListN.{length, set};
+ghost use lib.ListN.{length};
 ghost use lib.Seq.{sets};
 ghost use Rattle.text.specs.Addresses.{octetsOf};
 ghost use Rattle.rules.specs.Words.{ruleWords, mostRules};
 ghost use Rattle.rules.specs.Good.{good};
-ghost use Rattle.rule_file.specs.Records.{ruleOf, ruleValues, ruleTest, ruleAt};
+ghost use Rattle.rule_file.specs.Records.{ruleOf, ruleValues, ruleFits, ruleAt};
 
 // Whether the numbers of a line are those of rule `i`: its number, octets, and a good rule.
-pub(crate) fn rule_test(i: usize, values: [u32; 17]) -> bool
-    ensures { λ t. ⌜ t ≡ ruleTest i values ⌝ }
+pub(crate) fn rule_fits(i: usize, values: [u32; MOST_FIELDS]) -> bool
+    ensures { λ t. ⌜ t ≡ ruleFits i values ⌝ }
 {
     if values[0] as usize != i {
         return false;
@@ -30,7 +32,7 @@ pub(crate) fn rule_test(i: usize, values: [u32; 17]) -> bool
 }
 
 // Whether ten words are a good rule.
-fn rule_good(rule: [u32; 10]) -> bool
+fn rule_good(rule: [u32; RULE_WORDS]) -> bool
     ensures { λ t. ⌜ t ≡ good rule 0 ⌝ }
 {
     match list_verdict(&rule) {
@@ -40,7 +42,7 @@ fn rule_good(rule: [u32; 10]) -> bool
 }
 
 // The ten words of the rule with these numbers.
-pub(crate) fn rule_of(values: [u32; 17]) -> [u32; 10]
+pub(crate) fn rule_of(values: [u32; MOST_FIELDS]) -> [u32; RULE_WORDS]
     ensures { λ r. ⌜ r ≡ ruleOf values ⌝ }
 {
     let source = address_of(values[1], values[2], values[3], values[4]);
@@ -59,34 +61,24 @@ pub(crate) fn rule_of(values: [u32; 17]) -> [u32; 10]
     ]
 }
 
-// Puts the words of rule `i` into a list, as far as there is room.
-pub(crate) fn put_words(rules: &mut [u32], i: usize, rule: [u32; 10])
+// Stores the words of rule `i` into a list, as far as there is room.
+pub(crate) fn store_rule(rules: &mut [u32], i: usize, rule: [u32; RULE_WORDS])
     requires { ⌜ i < mostRules ⌝ }
     ensures { λ _. ⌜ now (rules .exit) ≡ sets (now (rules .entry)) (i * ruleWords) rule ⌝ }
 {
     let mut j = 0;
     while j < RULE_WORDS {
-        put_word(rules, i * RULE_WORDS + j, rule[j]);
+        store(rules, i * RULE_WORDS + j, rule[j]);
         j += 1;
     }
 }
 
-// Puts one word, where there is room.
-fn put_word(words: &mut [u32], at: usize, word: u32)
-    ensures { λ _. ⌜ now (words .exit) ≡ set (now (words .entry)) at word ⌝ }
-{
-    if words.len() <= at {
-        return;
-    }
-    words[at] = word;
-}
-
 // The words of rule `i` of a list.
-pub(crate) fn rule_at(rules: &[u32], i: usize) -> [u32; 10]
+pub(crate) fn rule_at(rules: &[u32], i: usize) -> [u32; RULE_WORDS]
     requires { ⌜ (i < mostRules) × (i * ruleWords + ruleWords ≤ length (now rules)) ⌝ }
     ensures { λ r. ⌜ r ≡ ruleAt (now (rules .entry)) i ⌝ }
 {
-    let mut rule = [0u32; 10];
+    let mut rule = [0u32; RULE_WORDS];
     let mut j = 0;
     while j < RULE_WORDS {
         rule[j] = rules[i * RULE_WORDS + j];
@@ -96,7 +88,7 @@ pub(crate) fn rule_at(rules: &[u32], i: usize) -> [u32; 10]
 }
 
 // The numbers of the line of rule `i`, with these words.
-pub(crate) fn values_of(i: usize, rule: [u32; 10]) -> [u32; 17]
+pub(crate) fn values_of(i: usize, rule: [u32; RULE_WORDS]) -> [u32; MOST_FIELDS]
     requires { ⌜ i < mostRules ⌝ }
     ensures { λ v. ⌜ v ≡ ruleValues i rule ⌝ }
 {

@@ -5,9 +5,9 @@ use refusals::Refusal;
 use refusals::Verdict;
 use rules::check::list_verdict;
 use rules::words::RULE_WORDS;
+use text::end::put_end;
 use text::put::Written;
 use text::put::put_line;
-use text::words::END;
 use text::words::ONE_TAB;
 use text::words::RULE;
 use text::words::RULE_MARKS;
@@ -18,10 +18,12 @@ ghost use lib.ListN.{length};
 ghost use Rattle.refusals.specs.declared.Verdict.the-variants.{Fine};
 ghost use Rattle.rules.specs.Words.{ruleWords, mostRules};
 ghost use Rattle.rules.specs.Good.{listVerdict};
+ghost use Rattle.text.specs.Line.{ended};
 ghost use Rattle.text.specs.Puts.{Put};
 ghost use Rattle.text.specs.Said.{Said};
 ghost use Rattle.rule_file.specs.Records.{ruleAt};
-ghost use Rattle.rule_file.specs.RuleText.{ended, headLine, ruleLine, endLine, rulesText};
+ghost use Rattle.rule_file.specs.ListText.{firstLine, ruleLine};
+ghost use Rattle.rule_file.specs.RuleText.{rulesFormat, rulesText};
 ghost use Rattle.rule_file.specs.Writing.{RulesWritten};
 
 // A list as text, from the front of `text` on; the rest of `text` is as found. A refusal writes nothing.
@@ -54,19 +56,19 @@ fn write_pass(rules: &[u32], text: &mut [u8]) -> usize
     ensures { λ r. ⌜ Put (now (text .entry)) 0 (rulesText (now (rules .entry))) (now (text .exit)) r ⌝ }
 {
     let count = rules.len() / RULE_WORDS;
-    let mut at = put_head(text, count);
+    let mut at = put_first(text, count);
     let mut i = 0;
     while i < count {
         at = put_rule(text, at, rules, i);
         i += 1;
     }
-    put_end(text, at, count)
+    put_end(text, at, count as u32 + 1)
 }
 
 // The first line of a text of `n` rules.
-fn put_head(text: &mut [u8], n: usize) -> usize
+fn put_first(text: &mut [u8], n: usize) -> usize
     requires { ⌜ n ≤ mostRules ⌝ }
-    ensures { λ r. ⌜ Put (now (text .entry)) 0 (ended (headLine n)) (now (text .exit)) r ⌝ }
+    ensures { λ r. ⌜ Put (now (text .entry)) 0 (ended (firstLine rulesFormat n)) (now (text .exit)) r ⌝ }
 {
     let values = [n as u32];
     put_line(text, 0, &RULES, &ONE_TAB, &values)
@@ -75,18 +77,9 @@ fn put_head(text: &mut [u8], n: usize) -> usize
 // The line of rule `i`.
 fn put_rule(text: &mut [u8], at: usize, rules: &[u32], i: usize) -> usize
     requires { ⌜ (i < mostRules) × (i * ruleWords + ruleWords ≤ length (now rules)) ⌝ }
-    ensures { λ r. ⌜ Put (now (text .entry)) at (ended (ruleLine i (ruleAt (now (rules .entry)) i)))
+    ensures { λ r. ⌜ Put (now (text .entry)) at (ended (ruleLine rulesFormat i (ruleAt (now (rules .entry)) i)))
         (now (text .exit)) r ⌝ }
 {
     let values = values_of(i, rule_at(rules, i));
     put_line(text, at, &RULE, &RULE_MARKS, &values)
-}
-
-// The end line of a text of `n` rules: the first line and those of the rules stand before it.
-fn put_end(text: &mut [u8], at: usize, n: usize) -> usize
-    requires { ⌜ n ≤ mostRules ⌝ }
-    ensures { λ r. ⌜ Put (now (text .entry)) at (ended (endLine n)) (now (text .exit)) r ⌝ }
-{
-    let values = [n as u32 + 1];
-    put_line(text, at, &END, &ONE_TAB, &values)
 }

@@ -20,6 +20,8 @@ pub mod Views
 pub mod LineViews
 pub mod NextLines
 pub mod Onward
+pub mod EndLines
+pub mod Files
 pub mod Sizes
 pub mod Unique
 pub mod Said

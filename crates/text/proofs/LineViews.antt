@@ -1,21 +1,25 @@
 -- What the answers at the end of a line and for all that is left of one tell of what was read.
 use Prim.Native.Nat.{ℕ, _+_, _<_, _≤_}
+use native.Mathlib.Omega.{arith}
 use mathlib.Core.Bool.{Bool, true, false, cond}
 use mathlib.Core.Path.{_≡_, refl, sym, ap, _∙_}
 use mathlib.Core.List.{List}
 use mathlib.Core.Option.{Option, none, some}
 use lib.Dec.{ltb}
-use lib.ListN.{length, drop}
+use lib.ListN.{length, getD, drop}
 use borrow.Author.Tests.{ltb-true, ltb-false}
 use Rattle.facts.proofs.Steps.{drop-step, drop-end}
 use Rattle.refusals.specs.declared.Refusal.{Refusal}
 use Rattle.text.specs.declared.cursor.Cursor.{Cursor}
 use Rattle.text.specs.declared.cursor.Step.the-variants.{Next, Refused}
 use Rattle.text.specs.declared.cursor.Fields.{Fields}
+use Rattle.text.specs.Words.{mostFields}
 use Rattle.text.specs.Places.{following}
 use Rattle.text.specs.Numbers.{bad}
 use Rattle.text.specs.Line.{readFields, readLine}
 use Rattle.text.specs.Cursors.{wrongAt, cursorAt, padded, noFields, onLine, endAt, wholeAt}
+use Rattle.text.proofs.Lines.{line-exact}
+use Rattle.text.proofs.Answers.{padded-at}
 use Rattle.text.proofs.Views.{next-refused, FieldsTaken}
 
 -- ---- nothing more in the line
@@ -55,6 +59,14 @@ pub record LineHeld (p k : ℕ) (o : Option (List ℕ)) (values : List ℕ) (d :
   pub read : o ≡ some vs
   pub holds : values ≡ padded vs
   pub there : d ≡ cursorAt p (following k)
+
+-- number j of a line that was read is value j of the answer
+pub number-at :
+    (w ms l : List ℕ) {vs values : List ℕ} → readLine w ms l ≡ some vs → values ≡ padded vs → length ms ≤ mostFields →
+    (j : ℕ) → j < length ms → getD values j 0 ≡ getD vs j 0
+number-at w ms l {vs} e h few j b =
+    let count = line-exact w ms l vs e .count in
+    ap (λ (x : List ℕ). getD x j 0) h ∙ padded-at vs j (omega arith) (omega arith)
 
 module _ (p k : ℕ) where
   pub held-by :

@@ -62,6 +62,11 @@ fields-exact ns (m ∷ ms) us s vs r l b h =
 pub none-some : {A B : Type 0} {a : A} → none ≡ some a → B
 none-some h = let z : _≡_ {A = ℕ} 0 1 = cc in absurd (omega arith)
 
+-- a choice that is made passed its test
+pub made : {A : Type 0} {a b : A} (c : Bool) → cond c (some a) none ≡ some b → (c ≡ true) × (a ≡ b)
+made true e = (refl, cc)
+made false e = none-some e
+
 -- what is read wholly is read with no bytes left
 pub wholly-got : {A : Type 0} (g : Got A) (a : A) → wholly g ≡ some a → g ≡ got a []
 wholly-got (got x []) a h = let e : x ≡ a = cc in ap (λ y. got y []) e

@@ -7,5 +7,6 @@ pub mod Text
 pub mod Addresses
 pub mod Cursors
 pub mod Onward
+pub mod EndLines
 pub mod Puts
 pub mod Said

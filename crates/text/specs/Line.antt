@@ -7,6 +7,7 @@
 --   readLine w ms l         the numbers of the line l, if it is a line of this format, its newline apart
 --   readCounted w l         those of a line of numbers behind tabs, of which the second says how many follow it
 --   printLine w ms vs       the line of this format with the numbers vs
+--   ended l                 a line with its newline
 --   EachUnder lim vs        every number is below lim
 use Prim.Native.Nat.{ℕ, _^_, _<_}
 use mathlib.Core.Bool.{Bool, true, false, cond}
@@ -14,7 +15,7 @@ use mathlib.Core.List.{List, [], _∷_, _++_}
 use mathlib.Core.Option.{Option, none, some}
 use lib.ListN.{getD, replicate}
 use lib.Dec.{eqb}
-use Rattle.text.specs.Words.{tab, twoTabs}
+use Rattle.text.specs.Words.{newline, tab, twoTabs}
 use Rattle.text.specs.Numbers.{Got, got, bad, digitsOf, isDigit, readNumber}
 
 abbrev pub thenRead : {A B : Type 0} → Got A → (A → List ℕ → Got B) → Got B
@@ -59,6 +60,9 @@ printFields (m ∷ ms) (v ∷ vs) = m ∷ (digitsOf v ++ printFields ms vs)
 
 unfoldable pub printLine : List ℕ → List ℕ → List ℕ → List ℕ
 printLine w ms vs = w ++ printFields ms vs
+
+abbrev pub ended : List ℕ → List ℕ
+ended l = l ++ (newline ∷ [])
 
 abbrev pub EachUnder : ℕ → List ℕ → Type 0
 EachUnder lim [] = Unit {0}

@@ -2,12 +2,13 @@
 // what was read, or the refusal of the line it stands in.
 use crate::place::following;
 use crate::place::within;
+use crate::store::store;
 use crate::words::MOST_FIELDS;
 use crate::words::NEWLINE;
 use refusals::Refusal;
 ghost use Prim.Native.Nat.{_≤_};
 ghost use mathlib.Core.Path.{_≡_};
-ghost use lib.ListN.{length, set};
+ghost use lib.ListN.{length};
 ghost use Rattle.text.specs.Numbers.{isDigit};
 ghost use Rattle.text.specs.Cursors.{wrongAt, digitsAt, numberAt, behindAt, wordAt, marksAt, endAt};
 ghost use Rattle.text.specs.Cursors.{noFields, fieldsAt, wholeAt, lineEndAt, lineAt};
@@ -134,7 +135,7 @@ impl Cursor {
             match c.number_behind(text, marks[i]) {
                 Number::Refused(why) => return no_fields(why),
                 Number::Value(v, d) => {
-                    hold(&mut values, i, v);
+                    store(&mut values, i, v);
                     at = d.at;
                 }
             }
@@ -235,15 +236,6 @@ fn no_fields(why: Refusal) -> Fields
     Fields {
         said: Step::Refused(why),
         values: [0; MOST_FIELDS],
-    }
-}
-
-// Puts `v` at place `i`, where there is such a place.
-fn hold(values: &mut [u32], i: usize, v: u32)
-    ensures { λ _. ⌜ now (values .exit) ≡ set (now (values .entry)) i v ⌝ }
-{
-    if i < values.len() {
-        values[i] = v;
     }
 }
 

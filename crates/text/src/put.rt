@@ -4,11 +4,11 @@ use crate::place::following;
 use crate::words::NEWLINE;
 use crate::words::TAB;
 use refusals::Refusal;
-ghost use mathlib.Core.List.{[], _∷_, _++_};
+ghost use mathlib.Core.List.{[], _∷_};
 ghost use lib.ListN.{length, replicate};
 ghost use Rattle.text.specs.Words.{tab};
 ghost use Rattle.text.specs.Numbers.{digitsOf};
-ghost use Rattle.text.specs.Line.{printFields, printLine};
+ghost use Rattle.text.specs.Line.{printFields, printLine, ended};
 ghost use Rattle.text.specs.Puts.{Put};
 
 // The answer of a call that writes some bytes from the front of a lent output on: how many, or why it wrote none.
@@ -20,7 +20,7 @@ pub enum Written {
 // A line: its word, a number behind each separator, and the newline.
 pub fn put_line(out: &mut [u8], at: usize, word: &[u8], marks: &[u8], values: &[u32]) -> usize
     ensures { λ r. ⌜ Put (now (out .entry)) at
-        (printLine (now (word .entry)) (now (marks .entry)) (now (values .entry)) ++ (10 ∷ [])) (now (out .exit)) r ⌝ }
+        (ended (printLine (now (word .entry)) (now (marks .entry)) (now (values .entry)))) (now (out .exit)) r ⌝ }
 {
     let p = put_bytes(out, at, word);
     let q = put_fields(out, p, marks, values);

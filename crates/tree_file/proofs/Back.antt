@@ -16,13 +16,15 @@ use Rattle.trees.specs.Words.{nodeWords, mostNodes, mostPool, leafMark, nodeCou
 use Rattle.trees.specs.Words.{countOf, entries}
 use Rattle.trees.specs.Spelt.{countsBelow, SpeltLeaf}
 use Rattle.trees.proofs.LeafSpelling.{counts-step, cut-counts-none, leaf-counts}
-use Rattle.text.specs.Words.{tab, treeWord, cutWord, leafWord, endWord, oneTab, threeTabs, fourTabs}
+use Rattle.text.specs.Words.{tab, treeWord, cutWord, leafWord, threeTabs, fourTabs}
 use Rattle.text.specs.Numbers.{isDigit}
 use Rattle.text.specs.Line.{readWord, readLine, readCounted, printLine, EachUnder}
+use Rattle.text.specs.EndLines.{endLine}
 use Rattle.text.proofs.Lines.{line-back}
 use Rattle.text.proofs.Counted.{line-counted}
-use Rattle.tree_file.specs.TreeText.{tree, State, start, within, over, headTest, cutTest, leafTest, endTest, step}
-use Rattle.tree_file.specs.TreeLines.{cutNumbers, leafNumbers, leafMarks, nodeLine, headLine, endLine, Spelling}
+use Rattle.text.proofs.Files.{end-back}
+use Rattle.tree_file.specs.TreeText.{tree, State, start, within, over, countsFit, cutFits, leafFits, step}
+use Rattle.tree_file.specs.TreeLines.{cutNumbers, leafNumbers, leafMarks, nodeLine, firstLine, Spelling}
 use Rattle.tree_file.proofs.Growing.{cut-line, leaf-line}
 use Rattle.tree_file.proofs.Spelling.{tabs-part, words-step, sizes-of, whole-nodes, one-node}
 use Rattle.tree_file.proofs.Spelling.{few-nodes, entries-under, entries-count, cut-below, leaf-below}
@@ -38,11 +40,11 @@ module _ {n : ℕ} {ws es : List ℕ} (g : Spelling n ws es) (b : EachUnder (2 ^
   after i = within n (nodeCount ws) (length es) i (take (i * nodeWords) ws) (take (countsBelow ws i) es)
 
   -- the first line leads to the nodes
-  pub head-back : step start (headLine n (nodeCount ws) (length es)) ≡ some (after 0)
-  unfolding step headTest countsBelow isDigit
-  head-back =
+  pub first-step : step start (firstLine n (nodeCount ws) (length es)) ≡ some (after 0)
+  unfolding step countsFit countsBelow isDigit
+  first-step =
       let few = sizes-of g in
-      let read : readLine treeWord threeTabs (headLine n (nodeCount ws) (length es)) ≡
+      let read : readLine treeWord threeTabs (firstLine n (nodeCount ws) (length es)) ≡
       some (n ∷ nodeCount ws ∷ length es ∷ []) =
       line-back treeWord threeTabs (n ∷ nodeCount ws ∷ length es ∷ []) refl refl
       (omega (arith, g .few), (omega (arith, few-nodes g), (omega (arith, few .short-pool), tt))) in
@@ -55,26 +57,22 @@ module _ {n : ℕ} {ws es : List ℕ} (g : Spelling n ws es) (b : EachUnder (2 ^
       )
 
   -- the end line leads to the end
-  pub end-back : step (after (nodeCount ws)) (endLine (nodeCount ws)) ≡ some (over (tree n ws es))
-  unfolding step endTest isDigit
-  end-back =
+  pub end-step : step (after (nodeCount ws)) (endLine (nodeCount ws + 1)) ≡ some (over (tree n ws es))
+  unfolding step
+  end-step =
       let m = nodeCount ws in
-      let read : readLine endWord oneTab (endLine m) ≡ some ((m + 1) ∷ []) =
-      line-back endWord oneTab ((m + 1) ∷ []) refl refl (omega (arith, few-nodes g), tt) in
       rw (
         le-ltb m m (omega arith),
-        read,
         take-all (m * nodeWords) ws (omega (arith, whole-nodes g)),
         take-all (countsBelow ws m) es (omega (arith, g .spelt .total)),
-        eq-eqb (length es) (length es) refl,
-        eq-eqb (m + 1) (m + 1) refl,
       )
+      (end-back (m + 1) (over (tree n ws es)) (omega (arith, few-nodes g)) (eq-eqb (length es) (length es) refl))
 
   module _ (i : ℕ) (h : i < nodeCount ws) where
     -- a cut's line leads to the next node
-    cut-back : fieldOf ws i < leafMark → step (after i) (nodeLine ws es i) ≡ some (after (i + 1))
-    unfolding step cutTest isDigit
-    cut-back l =
+    cut-step : fieldOf ws i < leafMark → step (after i) (nodeLine ws es i) ≡ some (after (i + 1))
+    unfolding step cutFits isDigit
+    cut-step l =
         let m = nodeCount ws in
         let read = line-back cutWord fourTabs (cutNumbers ws i) refl refl (cut-below g b i h) in
         let same : countsBelow ws (i + 1) ≡ countsBelow ws i =
@@ -123,16 +121,16 @@ module _ {n : ℕ} {ws es : List ℕ} (g : Spelling n ws es) (b : EachUnder (2 ^
           (line-back leafWord (leafMarks c) (leafNumbers ws es i) (tabs-part c) long (leaf-below g b i h s)))
 
       -- a leaf's numbers pass
-      leaf-test : leafTest n (length es) i (length (take (countsBelow ws i) es)) i (countOf ws i) ≡ true
-      unfolding leafTest
+      leaf-test : leafFits n (length es) i (length (take (countsBelow ws i) es)) i (countOf ws i) ≡ true
+      unfolding leafFits
       leaf-test =
           join (join (eq-eqb i i refl) (le-leb (countOf ws i) n (s .count)))
           (le-leb (length (take (countsBelow ws i) es) + countOf ws i) (length es) (rw before (s .within)))
 
       -- a leaf's line leads to the next node
-      leaf-back : step (after i) (nodeLine ws es i) ≡ some (after (i + 1))
+      leaf-step : step (after i) (nodeLine ws es i) ≡ some (after (i + 1))
       unfolding step
-      leaf-back =
+      leaf-step =
           let no-cut : readLine cutWord fourTabs (nodeLine ws es i) ≡ none =
           rw (leaf-line ws es i l) (leaf-not-cut (leafMarks (countOf ws i)) (leafNumbers ws es i)) in
           rw (
@@ -146,9 +144,9 @@ module _ {n : ℕ} {ws es : List ℕ} (g : Spelling n ws es) (b : EachUnder (2 ^
           )
 
     -- a node's line leads to the next node
-    pub node-back : step (after i) (nodeLine ws es i) ≡ some (after (i + 1))
-    node-back = go (within-or-over leafMark (fieldOf ws i))
+    pub node-step : step (after i) (nodeLine ws es i) ≡ some (after (i + 1))
+    node-step = go (within-or-over leafMark (fieldOf ws i))
       where
         go : WithinOrOver leafMark (fieldOf ws i) → step (after i) (nodeLine ws es i) ≡ some (after (i + 1))
-        go (atMost l) = leaf-back l
-        go (over l) = cut-back l
+        go (atMost l) = leaf-step l
+        go (over l) = cut-step l

@@ -3,30 +3,28 @@ use Prim.Native.Nat.{ℕ, _+_, _≤_}
 use native.Mathlib.Omega.{arith}
 use mathlib.Core.Bool.{Bool, true, false, cond}
 use mathlib.Core.Path.{_≡_, refl, sym, ap, subst, _∙_}
-use mathlib.Core.Option.{Option, none, some}
-use mathlib.Core.List.{List, [], _∷_, _++_}
-use lib.ListN.{length, getD}
-use lib.Dec.{ltb}
+use mathlib.Core.Option.{some}
+use mathlib.Core.List.{List, _∷_, _++_}
+use lib.ListN.{length}
+use lib.Dec.{ltb, eqb}
 use borrow.Author.Tests.{ltb-true, ltb-false, eqb-true}
-use Rattle.facts.specs.Lists.{tabulate}
-use Rattle.facts.proofs.Bools.{both}
-use Rattle.facts.proofs.Setting.{cells}
 use Rattle.trees.specs.Words.{nodeCount}
 use Rattle.trees.specs.Spelt.{countsBelow, Spelt}
 use Rattle.trees.proofs.Sizes.{Sizes, sizes-fine-iff}
-use Rattle.text.specs.Words.{newline, treeWord, cutWord, leafWord, endWord, oneTab, threeTabs, fourTabs}
-use Rattle.text.specs.Line.{readLine, readCounted, printLine}
-use Rattle.text.specs.Text.{Text, whole, split, good, readAll}
-use Rattle.text.proofs.Lines.{line-exact, none-some}
-use Rattle.text.proofs.Texts.{bytes, unlines-more, split-exact}
-use Rattle.text.proofs.Runs.{led}
-use Rattle.tree_file.specs.TreeText.{Tree, tree, State, start, within, over, endTest}
-use Rattle.tree_file.specs.TreeText.{onNode, onEnd, step, finish, treeIn}
-use Rattle.tree_file.specs.TreeLines.{headLine, endLine, nodeLines, treeText, Spelling}
-use Rattle.tree_file.proofs.Midway.{Mid, few-of}
-use Rattle.tree_file.proofs.Leads.{Says, W, made, head-leads, node-leads}
+use Rattle.text.specs.Words.{treeWord, cutWord, leafWord, endWord, oneTab, threeTabs, fourTabs}
+use Rattle.text.specs.Line.{readLine, readCounted, ended}
+use Rattle.text.specs.Text.{good}
+use Rattle.text.specs.EndLines.{onEnd, endLine}
+use Rattle.text.proofs.Lines.{none-some}
+use Rattle.text.proofs.Texts.{unlines-more}
+use Rattle.text.proofs.Files.{end-exact, led-to}
+use Rattle.tree_file.specs.TreeText.{Tree, tree, State, start, within, over}
+use Rattle.tree_file.specs.TreeText.{onNode, step, finish, treeIn}
+use Rattle.tree_file.specs.TreeLines.{firstLine, nodeLines, treeText, Spelling}
+use Rattle.tree_file.proofs.SoFar.{NodesSoFar, few-of}
+use Rattle.tree_file.proofs.Leads.{TextOf, SaysSoFar, first-leads, node-leads}
 
-module _ {n m p i : ℕ} {ws es t : List ℕ} (w : Mid n m p i ws es t) (l : List ℕ) (st : State) where
+module _ {n m p i : ℕ} {ws es t : List ℕ} (w : NodesSoFar n m p i ws es t) (l : List ℕ) (st : State) where
   -- ---- the end line leads to the end
 
   module _ (h : m ≤ i) (last : length es ≡ p) where
@@ -66,65 +64,52 @@ module _ {n m p i : ℕ} {ws es t : List ℕ} (w : Mid n m p i ws es t) (l : Lis
         }
 
     -- with the end line the text is that of these words
-    end-text : l ≡ endLine m → t ++ (l ++ (newline ∷ [])) ≡ treeText n ws es
+    end-text : l ≡ endLine (m + 1) → t ++ ended l ≡ treeText n ws es
     unfolding treeText
     end-text e =
-        ap (λ (u : List ℕ). u ++ (l ++ (newline ∷ []))) (w .text) ∙
-        sym (unlines-more (headLine n m p ∷ nodeLines ws es i) l) ∙
+        ap (λ (u : List ℕ). u ++ ended l) (w .text) ∙
+        sym (unlines-more (firstLine n m p ∷ nodeLines ws es i) l) ∙
         rw (nodes-are, last, all-are, e)
 
   -- an end line that passes
   end-leads :
-      (o : Option (List ℕ)) → m ≤ i → readLine endWord oneTab l ≡ o → onEnd n m p ws es o ≡ some st →
-      W st (t ++ (l ++ (newline ∷ [])))
-  unfolding tabulate endTest
-  end-leads none h r q = none-some q
-  end-leads (some v) h r q =
-      let f = line-exact endWord oneTab l v r in
-      let c = made (endTest m p (length es) (getD v 0 0)) q in
-      let d = both _ _ (c .0) in
-      let last : length es ≡ p = eqb-true (length es) p (d .0) in
-      let number : v ≡ (m + 1) ∷ [] = cells 1 v (f .count) ∙ rw (eqb-true (getD v 0 0) (m + 1) (d .1)) in
-      subst (λ (x : State). W x (t ++ (l ++ (newline ∷ [])))) (c .1)
-      (record {
-        text = end-text h last (f .text ∙ ap (printLine endWord oneTab) number);
-        spelling = spelling-of h last;
-        below = w .below;
-      })
+      m ≤ i → onEnd (eqb (length es) p) (m + 1) (over (tree n ws es)) (readLine endWord oneTab l) ≡ some st →
+      SaysSoFar st (t ++ ended l)
+  end-leads h q =
+      let e = end-exact (eqb (length es) p) (m + 1) (over (tree n ws es)) l q in
+      let last : length es ≡ p = eqb-true (length es) p (e .0) in
+      subst (λ (x : State). SaysSoFar x (t ++ ended l)) (e .2)
+      (record { text = end-text h last (e .1); spelling = spelling-of h last; below = w .below })
 
   -- a line within the nodes leads on
-  mid-leads :
+  within-leads :
       (b : Bool) → ltb i m ≡ b →
       cond b (onNode n m p i ws es (readLine cutWord fourTabs l) (readCounted leafWord l))
-      (onEnd n m p ws es (readLine endWord oneTab l)) ≡ some st →
-      W st (t ++ (l ++ (newline ∷ [])))
-  mid-leads true e q = node-leads w l st (ltb-true i m e) (readLine cutWord fourTabs l) refl q
-  mid-leads false e q = end-leads (readLine endWord oneTab l) (ltb-false i m e) refl q
+      (onEnd (eqb (length es) p) (m + 1) (over (tree n ws es)) (readLine endWord oneTab l)) ≡ some st →
+      SaysSoFar st (t ++ ended l)
+  within-leads true e q = node-leads w l st (ltb-true i m e) (readLine cutWord fourTabs l) refl q
+  within-leads false e q = end-leads (ltb-false i m e) q
 
 -- a line leads from what is said of one state to what is said of the next
-leads : (st st′ : State) (t l : List ℕ) → W st t → step st l ≡ some st′ → W st′ (t ++ (l ++ (newline ∷ [])))
+leads : (st st′ : State) (t l : List ℕ) → SaysSoFar st t → step st l ≡ some st′ → SaysSoFar st′ (t ++ ended l)
 unfolding step
-leads start st′ t l w h = head-leads l t st′ (readLine treeWord threeTabs l) refl w h
-leads (within n m p i ws es) st′ t l w h = mid-leads w l st′ (ltb i m) refl h
+leads start st′ t l w h = first-leads l t st′ (readLine treeWord threeTabs l) refl w h
+leads (within n m p i ws es) st′ t l w h = within-leads w l st′ (ltb i m) refl h
 leads (over x) st′ t l w h = none-some h
 
 -- a state that takes no more lines holds what the text says
-held : (s : List ℕ) (st : State) (n : ℕ) (ws es : List ℕ) → W st s → finish st ≡ some (tree n ws es) → Says s n ws es
+held :
+    (s : List ℕ) (st : State) (n : ℕ) (ws es : List ℕ) → SaysSoFar st s → finish st ≡ some (tree n ws es) →
+    TextOf s n ws es
 unfolding finish
 held s start n ws es w e = none-some e
 held s (within r m p i vs ds) n ws es w e = none-some e
 held s (over (tree r vs ds)) n ws es w e =
     let same : tree r vs ds ≡ tree n ws es = cc in
-    subst (λ (x : Tree). W (over x) s) same w
-
-of-text :
-    (s : List ℕ) (n : ℕ) (ws es : List ℕ) (x : Text) → bytes x ≡ s →
-    readAll step finish start 0 x ≡ good (tree n ws es) → Says s n ws es
-of-text s n ws es (whole ls t) e h =
-    let d = led step finish W leads start 0 ls [] t (tree n ws es) refl h in
-    held s (d .last) n ws es (rw e at (d .led)) (d .result)
+    subst (λ (x : Tree). SaysSoFar (over x) s) same w
 
 -- a text that reads well is the text of what it says, which is spelt, and its words are of 32 bits
-pub text-says : (s : List ℕ) (n : ℕ) (ws es : List ℕ) → treeIn s ≡ good (tree n ws es) → Says s n ws es
+pub text-says : (s : List ℕ) (n : ℕ) (ws es : List ℕ) → treeIn s ≡ good (tree n ws es) → TextOf s n ws es
 unfolding treeIn
-text-says s n ws es h = of-text s n ws es (split s) (split-exact s) h
+text-says s n ws es h =
+    let d = led-to step finish SaysSoFar leads refl s (tree n ws es) h in held s (d .last) n ws es (d .led) (d .result)

@@ -14,7 +14,7 @@ use Rattle.text.specs.Numbers.{Got, got, bad}
 use Rattle.text.specs.Line.{thenRead, readWord, readBehind, fieldsFrom, readFields, wholly, readLine, readCounted}
 use Rattle.text.proofs.Numbers.{bad-got}
 use Rattle.text.proofs.Lines.{fields-exact}
-use Rattle.tree_file.specs.TreeText.{State, within, leafTest, onLeaf, step}
+use Rattle.tree_file.specs.TreeText.{State, within, leafFits, onLeaf, step}
 use Rattle.tree_file.specs.NodeSteps.{onEntries, entriesOf}
 
 -- ---- numbers behind others
@@ -82,10 +82,10 @@ module _ (n m p i : ℕ) (ws es : List ℕ) (a c : ℕ) where
   entries-by :
       (g : Got (List ℕ)) →
       onLeaf n m p i ws es (wholly (infront (a ∷ c ∷ []) g)) ≡
-      onNumbers n m p i ws es c (leafTest n p i (length es) a c) (onEntries n (wholly g))
-  entries-by (got ys []) = pass-by (leafTest n p i (length es) a c) (allUnder n ys) ys
-  entries-by (got ys (b ∷ bs)) = none-by (leafTest n p i (length es) a c)
-  entries-by bad = none-by (leafTest n p i (length es) a c)
+      onNumbers n m p i ws es c (leafFits n p i (length es) a c) (onEntries n (wholly g))
+  entries-by (got ys []) = pass-by (leafFits n p i (length es) a c) (allUnder n ys) ys
+  entries-by (got ys (b ∷ bs)) = none-by (leafFits n p i (length es) a c)
+  entries-by bad = none-by (leafFits n p i (length es) a c)
 
 two-of : (us : List ℕ) → length us ≡ 2 → us ≡ getD us 0 0 ∷ getD us 1 0 ∷ []
 two-of [] e = absurd (omega arith)
@@ -112,7 +112,7 @@ module _ (n m p i : ℕ) (l ws es : List ℕ) (h : i < m) (no-cut : readLine cut
     -- the two numbers and the entries decide
     pub leaf-decides :
         step (within n m p i ws es) l ≡
-        onNumbers n m p i ws es (getD us 1 0) (leafTest n p i (length es) (getD us 0 0) (getD us 1 0))
+        onNumbers n m p i ws es (getD us 1 0) (leafFits n p i (length es) (getD us 0 0) (getD us 1 0))
         (entriesOf n (getD us 1 0) rest)
     unfolding entriesOf
     leaf-decides =

@@ -1,6 +1,6 @@
 -- The laws of the tree file, by subject.
 pub mod Growing
-pub mod Midway
+pub mod SoFar
 pub mod Tests
 pub mod OneNode
 pub mod Leads
@@ -8,12 +8,11 @@ pub mod Exact
 pub mod Spelling
 pub mod Back
 pub mod RoundTrips
-pub mod Fits
+pub mod Lengths
 pub mod Writing
 pub mod Storing
 pub mod SpellingVerdict
-pub mod Reading
-pub mod HeadEnd
+pub mod FirstLines
 pub mod Entries
 pub mod LeafLine
 pub mod NodeLine

@@ -16,13 +16,12 @@ use Rattle.text.specs.Numbers.{bad}
 use Rattle.text.specs.Places.{following}
 use Rattle.text.specs.Line.{readWord, readFields, readLine}
 use Rattle.text.specs.Cursors.{wrongAt, cursorAt}
-use Rattle.text.proofs.Lines.{line-exact}
 use Rattle.text.proofs.Views.{FieldsTaken}
-use Rattle.text.proofs.LineViews.{LineHeld}
+use Rattle.text.proofs.LineViews.{LineHeld, number-at}
 use Rattle.tree_file.specs.declared.read.Counts.{Counts}
 use Rattle.tree_file.specs.declared.node.Node.{Node}
 use Rattle.tree_file.specs.declared.node.Node.the-variants.{Refused, Next}
-use Rattle.tree_file.specs.TreeText.{cutTest, leafTest, step}
+use Rattle.tree_file.specs.TreeText.{cutFits, leafFits, step}
 use Rattle.tree_file.specs.NodeSteps.{Turn, EntriesRead, LineRead}
 use Rattle.tree_file.proofs.Tests.{leaf-passes}
 use Rattle.tree_file.proofs.LeafLine.{fields-count, no-leaf, leaf-decides}
@@ -34,19 +33,17 @@ module _ (s : List ℕ) (c : Cursor) (k : Counts) (i filled : ℕ) (turn : Turn 
   module _ {values : List ℕ} {d : Cursor}
       (t : LineHeld (length s + 1) (c .lines) (readLine cutWord fourTabs (drop (c .at) s)) values d) where
     cut-number : (j : ℕ) → j < 4 → getD values j 0 ≡ getD (t .vs) j 0
-    cut-number j h =
-        let four = line-exact cutWord fourTabs (drop (c .at) s) (t .vs) (t .read) .count in
-        ap (λ (l : List ℕ). getD l j 0) (t .holds) ∙ padded-at (t .vs) j (omega arith) (omega arith)
+    cut-number j h = number-at cutWord fourTabs (drop (c .at) s) (t .read) (t .holds) (omega arith) j h
 
     cut-tested :
-        {b : Bool} → cutTest (k .nodes) i (getD values 0 0) (getD values 1 0) (getD values 3 0) ≡ b →
-        cutTest (k .nodes) i (getD (t .vs) 0 0) (getD (t .vs) 1 0) (getD (t .vs) 3 0) ≡ b
+        {b : Bool} → cutFits (k .nodes) i (getD values 0 0) (getD values 1 0) (getD values 3 0) ≡ b →
+        cutFits (k .nodes) i (getD (t .vs) 0 0) (getD (t .vs) 1 0) (getD (t .vs) 3 0) ≡ b
     cut-tested e = rw (cut-number 0 (omega arith), cut-number 1 (omega arith), cut-number 3 (omega arith)) at e
 
     -- a cut line whose numbers do not pass is wrong
     pub cut-misfits :
         {why : Refusal} (nodes pool nodes′ pool′ : List ℕ) →
-        cutTest (k .nodes) i (getD values 0 0) (getD values 1 0) (getD values 3 0) ≡ false → why ≡ wrongAt (c .lines) →
+        cutFits (k .nodes) i (getD values 0 0) (getD values 1 0) (getD values 3 0) ≡ false → why ≡ wrongAt (c .lines) →
         LineRead s c k i filled nodes pool nodes′ pool′ (Refused why)
     unfolding step
     cut-misfits nodes pool nodes′ pool′ e q =
@@ -55,7 +52,7 @@ module _ (s : List ℕ) (c : Cursor) (k : Counts) (i filled : ℕ) (turn : Turn 
     -- a cut line whose numbers pass is stored
     pub cut-stores :
         (nodes pool : List ℕ) {nodes′ : List ℕ} →
-        cutTest (k .nodes) i (getD values 0 0) (getD values 1 0) (getD values 3 0) ≡ true →
+        cutFits (k .nodes) i (getD values 0 0) (getD values 1 0) (getD values 3 0) ≡ true →
         nodes′ ≡ sets nodes (i * nodeWords) (getD values 1 0 ∷ getD values 2 0 ∷ getD values 3 0 ∷ []) →
         LineRead s c k i filled nodes pool nodes′ pool (Next filled d)
     unfolding step
@@ -93,7 +90,7 @@ module _ (s : List ℕ) (c : Cursor) (k : Counts) (i filled : ℕ) (turn : Turn 
       -- a leaf line whose two numbers do not pass is wrong
       pub leaf-misfits :
           {why : Refusal} (nodes′ pool′ : List ℕ) →
-          leafTest (k .rules) (k .pool) i filled (getD values 0 0) (getD values 1 0) ≡ false →
+          leafFits (k .rules) (k .pool) i filled (getD values 0 0) (getD values 1 0) ≡ false →
           why ≡ wrongAt (c .lines) → LineRead s c k i filled nodes pool nodes′ pool′ (Refused why)
       leaf-misfits nodes′ pool′ e q =
           let test = rw (leaf-number 0 (omega arith), leaf-number 1 (omega arith)) at e in
@@ -103,7 +100,7 @@ module _ (s : List ℕ) (c : Cursor) (k : Counts) (i filled : ℕ) (turn : Turn 
       -- a leaf line whose two numbers pass is what its entries are
       pub leaf-stores :
           {nodes′ pool′ : List ℕ} {r : Node} →
-          leafTest (k .rules) (k .pool) i filled (getD values 0 0) (getD values 1 0) ≡ true →
+          leafFits (k .rules) (k .pool) i filled (getD values 0 0) (getD values 1 0) ≡ true →
           nodes′ ≡ sets nodes (i * nodeWords) (leafMark ∷ filled ∷ getD values 1 0 ∷ []) →
           EntriesRead s d (k .rules) (getD values 1 0) filled pool pool′ r →
           LineRead s c k i filled nodes pool nodes′ pool′ r

@@ -18,11 +18,11 @@ use Rattle.text.specs.Line.{printLine, EachUnder}
 use Rattle.text.proofs.Below.{below-at}
 use Rattle.text.proofs.Counted.{countedMarks}
 use Rattle.text.proofs.Lines.{Line}
-use Rattle.tree_file.specs.TreeText.{cutTest, leafTest}
+use Rattle.tree_file.specs.TreeText.{cutFits, leafFits}
 use Rattle.tree_file.specs.TreeLines.{nodeLine}
 use Rattle.tree_file.proofs.Growing.{SpeltAt, word-last, counts-kept, cut-line, leaf-line}
 use Rattle.tree_file.proofs.Tests.{cut-passes, leaf-passes}
-use Rattle.tree_file.proofs.Midway.{Mid, Node, few-of}
+use Rattle.tree_file.proofs.SoFar.{NodesSoFar, NodeAdded, few-of}
 
 -- a list of two numbers or more begins with them
 two-cells : (v : List ℕ) → 2 ≤ length v → v ≡ getD v 0 0 ∷ getD v 1 0 ∷ drop 2 v
@@ -32,8 +32,8 @@ two-cells (a ∷ b ∷ v) h = refl
 
 -- ---- the two kinds
 
-module _ {n m p i : ℕ} {ws es t l v : List ℕ} (w : Mid n m p i ws es t) where
-  module _ (f : Line cutWord fourTabs l v) (e : cutTest m i (getD v 0 0) (getD v 1 0) (getD v 3 0) ≡ true) where
+module _ {n m p i : ℕ} {ws es t l v : List ℕ} (w : NodesSoFar n m p i ws es t) where
+  module _ (f : Line cutWord fourTabs l v) (e : cutFits m i (getD v 0 0) (getD v 1 0) (getD v 3 0) ≡ true) where
     xs : List ℕ
     xs = getD v 1 0 ∷ getD v 2 0 ∷ getD v 3 0 ∷ []
 
@@ -63,7 +63,7 @@ module _ {n m p i : ℕ} {ws es t l v : List ℕ} (w : Mid n m p i ws es t) wher
         }
 
     -- a cut line that passes adds a cut
-    pub cut-node : Node n m p i ws es (getD v 1 0 ∷ getD v 2 0 ∷ getD v 3 0 ∷ []) [] l
+    pub cut-node : NodeAdded n m p i ws es (getD v 1 0 ∷ getD v 2 0 ∷ getD v 3 0 ∷ []) [] l
     unfolding xs
     cut-node =
         let small : (j : ℕ) → getD v j 0 < 2 ^ 32 = λ j. below-at (2 ^ 32) v j (omega arith) (f .below) in
@@ -77,16 +77,16 @@ module _ {n m p i : ℕ} {ws es t l v : List ℕ} (w : Mid n m p i ws es t) wher
         }
 
   module _ (f : Line leafWord (countedMarks v) l v)
-      (e : (leafTest n p i (length es) (getD v 0 0) (getD v 1 0) && allUnder n (drop 2 v)) ≡ true) where
+      (e : (leafFits n p i (length es) (getD v 0 0) (getD v 1 0) && allUnder n (drop 2 v)) ≡ true) where
     ls : List ℕ
     ls = leafMark ∷ length es ∷ getD v 1 0 ∷ []
 
     ys : List ℕ
     ys = drop 2 v
 
-    tests : (leafTest n p i (length es) (getD v 0 0) (getD v 1 0) ≡ true) × (allUnder n ys ≡ true)
+    tests : (leafFits n p i (length es) (getD v 0 0) (getD v 1 0) ≡ true) × (allUnder n ys ≡ true)
     unfolding ys
-    tests = both (leafTest n p i (length es) (getD v 0 0) (getD v 1 0)) (allUnder n ys) e
+    tests = both (leafFits n p i (length es) (getD v 0 0) (getD v 1 0)) (allUnder n ys) e
 
     passes : (getD v 0 0 ≡ i) × (getD v 1 0 ≤ n) × (length es + getD v 1 0 ≤ p)
     passes = leaf-passes n p i (length es) (getD v 0 0) (getD v 1 0) (tests .0)
@@ -152,7 +152,7 @@ module _ {n m p i : ℕ} {ws es t l v : List ℕ} (w : Mid n m p i ws es t) wher
         (omega arith, (omega (arith, w .room, few .pool), (below-at (2 ^ 32) v 1 (omega arith) (f .below), tt)))
 
     -- a leaf line that passes adds a leaf and its entries
-    pub leaf-node : Node n m p i ws es (leafMark ∷ length es ∷ getD v 1 0 ∷ []) (drop 2 v) l
+    pub leaf-node : NodeAdded n m p i ws es (leafMark ∷ length es ∷ getD v 1 0 ∷ []) (drop 2 v) l
     unfolding ls ys
     leaf-node =
         record {

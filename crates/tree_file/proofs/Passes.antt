@@ -1,11 +1,13 @@
--- The pass over the lines of the nodes, node by node. `Going` is the invariant: the nodes below i are read, their words
--- and entries are stored, and the rest decides.
+-- The pass over the lines of the nodes, node by node. `ReadSoFar` is the invariant: the nodes below i are read, their
+-- words and entries are stored, and the rest decides.
 use Prim.Native.Nat.{ℕ, _+_, _*_, _^_, _≤_, _<_}
 use native.Mathlib.Omega.{arith}
 use mathlib.Core.Path.{_≡_, refl, sym, ap, subst, _∙_}
 use mathlib.Core.List.{List, [], _++_}
 use lib.ListN.{length, take, drop, length-append}
 use lib.Seq.{sets, length-take-le}
+use lib.Dec.{eqb}
+use borrow.Author.Tests.{le-ltb, eqb-true}
 use Rattle.facts.proofs.Setting.{sets-append}
 use Rattle.refusals.specs.declared.Refusal.{Refusal}
 use Rattle.refusals.specs.declared.Refusal.the-variants.{TextStops}
@@ -15,16 +17,17 @@ use Rattle.text.specs.Places.{following}
 use Rattle.text.specs.Text.{refused, line, noLine, nextFrom}
 use Rattle.text.specs.Cursors.{cursorAt}
 use Rattle.text.specs.Onward.{Stands}
+use Rattle.text.specs.declared.end.Ending.the-variants as end
+use Rattle.text.specs.EndLines.{endLineAt}
+use Rattle.text.proofs.EndLines.{EndComes, end-comes, over-complete}
 use Rattle.text.proofs.NextLines.{EndAt}
-use Rattle.text.proofs.Onward.{next-stands}
-use Rattle.tree_file.specs.declared.read.Read.{Read}
+use Rattle.text.proofs.Onward.{next-stands, on-next, on-wrong, on-stops}
 use Rattle.tree_file.specs.declared.read.Counts.{Counts}
 use Rattle.tree_file.specs.declared.node.Node.{Node}
 use Rattle.tree_file.specs.declared.node.Node.the-variants.{Refused, Next}
-use Rattle.tree_file.specs.TreeText.{finish}
-use Rattle.tree_file.specs.ReadSteps.{inNodes, begun, readOn, EndRead, PassRead}
-use Rattle.tree_file.specs.NodeSteps.{LineRead, NodeRead}
-use Rattle.tree_file.proofs.Reading.{on-next, on-wrong, on-stops}
+use Rattle.tree_file.specs.TreeText.{tree, over, step, finish}
+use Rattle.tree_file.specs.ReadSteps.{inNodes, begun, treeFrom, TreeStored}
+use Rattle.tree_file.specs.NodeSteps.{LineRead, NodeLineRead}
 
 -- ---- a node's line in its text
 
@@ -37,17 +40,18 @@ module _ {s : List ℕ} {c : Cursor} (small : length s < 2 ^ 63) (stands : Stand
   -- where there is no whole line the text stops
   pub node-stops :
       {why : Refusal} (nodes′ pool′ : List ℕ) → nextFrom [] (drop (c .at) s) ≡ noLine → why ≡ TextStops (c .lines) →
-      NodeRead s c k i filled nodes pool nodes′ pool′ (Refused why)
+      NodeLineRead s c k i filled nodes pool nodes′ pool′ (Refused why)
   unfolding finish
-  node-stops nodes′ pool′ e q = NodeRead.refuses (λ ws es f. on-stops small stands (inNodes k i ws es) refl e q)
+  node-stops nodes′ pool′ e q =
+      NodeLineRead.refuses (λ ws es f. on-stops small stands step finish (inNodes k i ws es) refl e q)
 
   -- what a line comes to is what the text comes to there
   pub node-of-line :
       {p : ℕ} {nodes′ pool′ : List ℕ} {r : Node} → EndAt s c p →
-      LineRead (take p s) c k i filled nodes pool nodes′ pool′ r → NodeRead s c k i filled nodes pool nodes′ pool′ r
+      LineRead (take p s) c k i filled nodes pool nodes′ pool′ r → NodeLineRead s c k i filled nodes pool nodes′ pool′ r
   node-of-line e (LineRead.refuses q f) =
-      NodeRead.refuses
-      (λ ws es g. on-wrong small stands (inNodes k i ws es) (e .next) (rw (e .part) at (f ws es g)) q)
+      NodeLineRead.refuses
+      (λ ws es g. on-wrong small stands step finish (inNodes k i ws es) (e .next) (rw (e .part) at (f ws es g)) q)
   node-of-line {p} e (LineRead.stores {sum = sum} {d = d} xs ys added q f) =
       let size : length (take p s) ≡ p = length-take-le p s (omega (arith, e .within)) in
       let there : d ≡ cursorAt (p + 1) (following (c .lines)) =
@@ -55,18 +59,18 @@ module _ {s : List ℕ} {c : Cursor} (small : length s < 2 ^ 63) (stands : Stand
       let at : p + 1 ≡ d .at = sym (ap (λ (x : Cursor). x .at) there) in
       let lines : d .lines ≡ following (c .lines) = ap (λ (x : Cursor). x .lines) there in
       let next = subst (λ (x : ℕ). nextFrom [] (drop (c .at) s) ≡ line (e .this) (drop x s)) at (e .next) in
-      NodeRead.stores xs ys added (next-stands small stands {d = d} next (omega (arith, e .within)) lines)
+      NodeLineRead.stores xs ys added (next-stands small stands {d = d} next (omega (arith, e .within)) lines)
       (λ ws es g.
-      on-next small stands d (inNodes k i ws es) (inNodes k (i + 1) (ws ++ xs) (es ++ ys)) next lines
+      on-next small stands step finish (inNodes k i ws es) d (inNodes k (i + 1) (ws ++ xs) (es ++ ys)) next lines
       (rw (e .part) at (f ws es g)))
 
 -- ---- node by node
 
-pub record Going (s : List ℕ) (k : Counts) (first : Cursor) (nodes pool : List ℕ) (i filled : ℕ) (c : Cursor)
+pub record ReadSoFar (s : List ℕ) (k : Counts) (first : Cursor) (nodes pool : List ℕ) (i filled : ℕ) (c : Cursor)
     (nodes′ pool′ : List ℕ) : Type 0 where
   pub words : List ℕ
   pub entries : List ℕ
-  pub left : readOn (begun k) s first ≡ readOn (inNodes k i words entries) s c
+  pub left : treeFrom (begun k) s first ≡ treeFrom (inNodes k i words entries) s c
   pub size : length words ≡ i * nodeWords
   pub total : length entries ≡ filled
   pub nodes-are : nodes′ ≡ sets nodes 0 words
@@ -76,9 +80,10 @@ pub record Going (s : List ℕ) (k : Counts) (first : Cursor) (nodes pool : List
   pub room : filled ≤ k .pool
 
 -- before the first node nothing is stored, and all is left
-pub going-first :
-    {s : List ℕ} (k : Counts) {c : Cursor} (nodes pool : List ℕ) → Stands s c → Going s k c nodes pool 0 0 c nodes pool
-going-first k nodes pool h =
+pub so-far-first :
+    {s : List ℕ} (k : Counts) {c : Cursor} (nodes pool : List ℕ) → Stands s c →
+    ReadSoFar s k c nodes pool 0 0 c nodes pool
+so-far-first k nodes pool h =
     record {
       words = [];
       entries = [];
@@ -93,19 +98,20 @@ going-first k nodes pool h =
     }
 
 module _ {s : List ℕ} {k : Counts} {first : Cursor} {nodes pool : List ℕ} {i filled : ℕ} {c : Cursor}
-    {now-nodes now-pool : List ℕ} (g : Going s k first nodes pool i filled c now-nodes now-pool) where
+    {now-nodes now-pool : List ℕ} (g : ReadSoFar s k first nodes pool i filled c now-nodes now-pool) where
   -- a refused line refuses the text
-  pub going-refused :
+  pub so-far-refused :
       {why : Refusal} {nodes′ pool′ : List ℕ} →
-      NodeRead s c k i filled now-nodes now-pool nodes′ pool′ (Refused why) → readOn (begun k) s first ≡ refused why
-  going-refused (NodeRead.refuses f) = g .left ∙ f (g .words) (g .entries) (g .total)
+      NodeLineRead s c k i filled now-nodes now-pool nodes′ pool′ (Refused why) →
+      treeFrom (begun k) s first ≡ refused why
+  so-far-refused (NodeLineRead.refuses f) = g .left ∙ f (g .words) (g .entries) (g .total)
 
   -- a node's line leads to the next
-  pub going-step :
+  pub so-far-step :
       {sum : ℕ} {d : Cursor} {nodes′ pool′ : List ℕ} → i < k .nodes →
-      NodeRead s c k i filled now-nodes now-pool nodes′ pool′ (Next sum d) →
-      Going s k first nodes pool (i + 1) sum d nodes′ pool′
-  going-step h (NodeRead.stores xs ys a stands f) =
+      NodeLineRead s c k i filled now-nodes now-pool nodes′ pool′ (Next sum d) →
+      ReadSoFar s k first nodes pool (i + 1) sum d nodes′ pool′
+  so-far-step h (NodeLineRead.stores xs ys a stands f) =
       let e : i * nodeWords ≡ 0 + length (g .words) = omega (arith, g .size) in
       let e′ : filled ≡ 0 + length (g .entries) = omega (arith, g .total) in
       record {
@@ -121,26 +127,38 @@ module _ {s : List ℕ} {k : Counts} {first : Cursor} {nodes pool : List ℕ} {i
         room = a .fits;
       }
 
-  -- behind the last node the end line decides
-  pub going-last :
-      {r : Read} → k .nodes ≤ i → EndRead s c k filled r →
-      PassRead (readOn (begun k) s first) nodes pool now-nodes now-pool r
-  going-last h (EndRead.refuses f) = PassRead.refuses (there ∙ f (g .words) (g .entries) (g .total))
-    where
-      there : readOn (begun k) s first ≡ readOn (inNodes k (k .nodes) (g .words) (g .entries)) s c
-      there =
-          let e : i ≡ k .nodes = omega (arith, g .most) in
-          g .left ∙ ap (λ (x : ℕ). readOn (inNodes k x (g .words) (g .entries)) s c) e
-  going-last h (EndRead.ends full f) =
-      let e : i ≡ k .nodes = omega (arith, g .most) in
-      let there = g .left ∙ ap (λ (x : ℕ). readOn (inNodes k x (g .words) (g .entries)) s c) e in
-      PassRead.stores {m = k .nodes}
-      (record {
-        words = g .words;
-        entries = g .entries;
-        says = there ∙ f (g .words) (g .entries) (g .total);
-        size = omega (arith, g .size);
-        total = g .total ∙ full;
-        nodes-are = g .nodes-are;
-        pool-is = g .pool-is;
-      })
+  module _ (small : length s < 2 ^ 63) (h : k .nodes ≤ i) where
+    -- behind the last node the end line decides
+    last-comes :
+        EndComes (treeFrom (begun k) s first) (tree (k .rules) (g .words) (g .entries))
+        (endLineAt s c (eqb filled (k .pool)) (k .nodes + 1))
+    unfolding step finish
+    last-comes =
+        let e : i ≡ k .nodes = omega (arith, g .most) in
+        let there = g .left ∙ ap (λ (x : ℕ). treeFrom (inNodes k x (g .words) (g .entries)) s c) e in
+        let said = tree (k .rules) (g .words) (g .entries) in
+        rw there
+        (end-comes step finish small (g .stands) (inNodes k (k .nodes) (g .words) (g .entries)) (over said) said
+        (eqb filled (k .pool)) (k .nodes + 1) refl
+        (λ l. rw (le-ltb (k .nodes) (k .nodes) (omega arith), g .total)) refl (λ l. refl))
+
+    -- where it is refused, so is the text
+    pub so-far-ends-not :
+        {why : Refusal} → end.Refused why ≡ endLineAt s c (eqb filled (k .pool)) (k .nodes + 1) →
+        treeFrom (begun k) s first ≡ refused why
+    so-far-ends-not q = subst (EndComes (treeFrom (begun k) s first) _) (sym q) last-comes
+
+    -- where the text is over, the whole tree is stored
+    pub so-far-ends :
+        end.Over ≡ endLineAt s c (eqb filled (k .pool)) (k .nodes + 1) →
+        TreeStored (treeFrom (begun k) s first) nodes pool now-nodes now-pool (k .rules) (k .nodes) (k .pool)
+    so-far-ends q =
+        record {
+          words = g .words;
+          entries = g .entries;
+          says = subst (EndComes (treeFrom (begun k) s first) _) (sym q) last-comes;
+          size = omega (arith, g .size, g .most);
+          total = g .total ∙ eqb-true filled (k .pool) (over-complete s c (eqb filled (k .pool)) (k .nodes + 1) q);
+          nodes-are = g .nodes-are;
+          pool-is = g .pool-is;
+        }

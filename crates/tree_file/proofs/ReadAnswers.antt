@@ -23,7 +23,7 @@ use Rattle.tree_file.specs.declared.read.Read.{Read}
 use Rattle.tree_file.specs.declared.read.Read.the-variants.{Refused, Tree}
 use Rattle.tree_file.specs.TreeText.{tree, treeIn}
 use Rattle.tree_file.specs.Reading.{paper, roomFor, readVerdict, TreeRead}
-use Rattle.tree_file.specs.ReadSteps.{Stored, PassRead}
+use Rattle.tree_file.specs.ReadSteps.{TreeStored, PassRead}
 use Rattle.tree_file.proofs.Spelling.{few-nodes, sizes-of}
 use Rattle.tree_file.proofs.RoundTrips.{spelling-of-read}
 
@@ -37,12 +37,12 @@ read-apart (Tree n m p) (Tree n′ m′ p′) e = cc
 -- what a pass that stored tells
 pub stored-of :
     {a : Reading _} {nodes pool nodes′ pool′ : List ℕ} {n m p : ℕ} → PassRead a nodes pool nodes′ pool′ (Tree n m p) →
-    Stored a nodes pool nodes′ pool′ n m p
+    TreeStored a nodes pool nodes′ pool′ n m p
 stored-of (PassRead.stores w) = w
 
 -- the counts of a text that reads well obey the limits
 pub stored-few :
-    (s : List ℕ) {nodes pool nodes′ pool′ : List ℕ} {n m p : ℕ} → Stored (treeIn s) nodes pool nodes′ pool′ n m p →
+    (s : List ℕ) {nodes pool nodes′ pool′ : List ℕ} {n m p : ℕ} → TreeStored (treeIn s) nodes pool nodes′ pool′ n m p →
     (m ≤ mostNodes) × (p ≤ mostPool)
 stored-few s {n = n} w =
     let g = spelling-of-read s n (w .words) (w .entries) (w .says) in
@@ -67,7 +67,7 @@ module _ (s nodes pool kept kept′ : List ℕ) (none : length kept ≡ 0) (none
       TreeRead s nodes pool (Refused why) (kept ++ nodes) (kept′ ++ pool)
   text-refused (PassRead.refuses e) = refused-so (rw e)
 
-  module _ {a b : List ℕ} {n m p : ℕ} (w : Stored (treeIn s) a b kept kept′ n m p) where
+  module _ {a b : List ℕ} {n m p : ℕ} (w : TreeStored (treeIn s) a b kept kept′ n m p) where
     -- nodes for which there is no room are refused with their words
     pub nodes-refused :
         {needed : ℕ} → needed ≡ m * nodeWords → length (kept ++ nodes) < needed →

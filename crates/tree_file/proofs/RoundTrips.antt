@@ -1,30 +1,30 @@
 -- The round trips: what is written reads back, what reads well is what would be written, and a file that is cut is
 -- refused.
-use Prim.Native.Nat.{ℕ, zero, suc, _+_, _≤_, _^_}
+use Prim.Native.Nat.{ℕ, zero, suc, _≤_, _^_}
 use native.Mathlib.Omega.{arith}
 use native.Mathlib.Nat.{zero-add}
 use native.Mathlib.Numerals.{add-one}
-use mathlib.Core.Path.{_≡_, refl, sym, ap, _∙_}
+use mathlib.Core.Path.{_≡_, refl, sym, _∙_}
 use mathlib.Core.Option.{none, some}
-use mathlib.Core.List.{List, [], _∷_, _++_, append-nil}
+use mathlib.Core.List.{List, [], _∷_, _++_}
 use lib.ListN.{length}
 use Rattle.refusals.specs.declared.Refusal.the-variants.{TextStops}
 use Rattle.trees.specs.Words.{leafMark, nodeCount, fieldOf, countOf}
-use Rattle.text.specs.Words.{treeWord, cutWord, leafWord, endWord, oneTab, threeTabs, fourTabs}
+use Rattle.text.specs.Words.{treeWord, cutWord, leafWord, threeTabs, fourTabs}
 use Rattle.text.specs.Line.{EachUnder}
-use Rattle.text.specs.Text.{split, linesOf, good, refused, run}
+use Rattle.text.specs.Text.{split, linesOf, good, refused}
 use Rattle.text.proofs.Lines.{none-some}
 use Rattle.text.proofs.Plain.{Plain, AllPlain, plain-of, all-plain-more, line-plain}
-use Rattle.text.proofs.Texts.{split-lines}
-use Rattle.text.proofs.Runs.{Walk, walk-more, walk-run}
+use Rattle.text.proofs.Runs.{Walk, walk-more}
+use Rattle.text.proofs.Files.{file-plain, reads-as}
 use Rattle.text.proofs.Cut.{cut}
 use Rattle.facts.proofs.Cases.{WithinOrOver, within-or-over, atMost, over as above}
 use Rattle.tree_file.specs.TreeText.{Tree, tree, State, start, within, over, step, finish, treeIn}
-use Rattle.tree_file.specs.TreeLines.{cutNumbers, leafNumbers, leafMarks, nodeLine, nodeLines, headLine, endLine}
-use Rattle.tree_file.specs.TreeLines.{treeLines, treeText, Spelling}
+use Rattle.tree_file.specs.TreeLines.{cutNumbers, leafNumbers, leafMarks, nodeLine, nodeLines, firstLine}
+use Rattle.tree_file.specs.TreeLines.{treeText, Spelling}
 use Rattle.tree_file.proofs.Growing.{cut-line, leaf-line}
 use Rattle.tree_file.proofs.Spelling.{tabs-plain}
-use Rattle.tree_file.proofs.Back.{after, head-back, node-back, end-back}
+use Rattle.tree_file.proofs.Back.{after, first-step, node-step, end-step}
 use Rattle.tree_file.proofs.Exact.{text-says}
 
 -- ---- the lines have no newline among their bytes
@@ -48,35 +48,27 @@ nodes-plain ws es zero = tt
 nodes-plain ws es (suc i) =
     all-plain-more (nodeLines ws es i) (nodeLine ws es i) (nodes-plain ws es i) (node-plain ws es i)
 
-file-plain : (n : ℕ) (ws es : List ℕ) → AllPlain (treeLines n ws es)
-file-plain n ws es =
-    let m = nodeCount ws in (
-      line-plain treeWord threeTabs (n ∷ m ∷ length es ∷ []) (plain-of treeWord refl) (plain-of threeTabs refl),
-      all-plain-more (nodeLines ws es m) (endLine m) (nodes-plain ws es m)
-          (line-plain endWord oneTab ((m + 1) ∷ []) (plain-of endWord refl) (plain-of oneTab refl)),
-    )
-
 -- ---- what is written reads back
 
 module _ {n : ℕ} {ws es : List ℕ} (g : Spelling n ws es) (b : EachUnder (2 ^ 32) ws) where
   -- the first line and the lines of the first i nodes lead to the state after them
   walked :
       (i : ℕ) → i ≤ nodeCount ws →
-      Walk step finish start (headLine n (nodeCount ws) (length es) ∷ nodeLines ws es i) (after g b i)
+      Walk step finish start (firstLine n (nodeCount ws) (length es) ∷ nodeLines ws es i) (after g b i)
   unfolding nodeLines
-  walked zero h = Walk.go (head-back g b) Walk.here
+  walked zero h = Walk.go (first-step g b) Walk.here
   walked (suc i) h =
-      walk-more step finish (walked i (omega arith)) (rw add-one at (node-back g b i (omega arith)))
+      walk-more step finish (walked i (omega arith)) (rw add-one at (node-step g b i (omega arith)))
 
   -- the text of a tree that is spelt, the words of its nodes being of 32 bits, says that tree
   pub read-of-written : treeIn (treeText n ws es) ≡ good (tree n ws es)
-  unfolding treeIn treeText run finish
+  unfolding treeIn treeText finish
   read-of-written =
-      let ls = treeLines n ws es in
-      let all = walk-more step finish (walked (nodeCount ws) (omega arith)) (end-back g b) in
-      rw (split-lines ls (file-plain n ws es))
-      (ap (λ (ms : List (List ℕ)). run step finish start 0 ms []) (sym (append-nil ls)) ∙
-      walk-run step finish 0 [] [] all)
+      let m = nodeCount ws in
+      let first = n ∷ m ∷ length es ∷ [] in
+      let plain = line-plain treeWord threeTabs first (plain-of treeWord refl) (plain-of threeTabs refl) in
+      reads-as step finish (file-plain (firstLine n m (length es)) (nodeLines ws es m) m plain (nodes-plain ws es m))
+      (walk-more step finish (walked m (omega arith)) (end-step g b)) refl
 
 -- ---- what reads well
 

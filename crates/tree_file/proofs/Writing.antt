@@ -1,18 +1,20 @@
 -- The text of a tree, part by part, as it is put.
 use Prim.Native.Nat.{ℕ, _+_, _-_, _≤_, _<_}
 use native.Mathlib.Omega.{arith}
-use mathlib.Core.Path.{_≡_, refl, sym, ap, _∙_}
+use mathlib.Core.Path.{_≡_, refl, sym, ap}
 use mathlib.Core.List.{List, [], _∷_, _++_, append-assoc, append-nil}
 use lib.ListN.{length, take, drop, length-take, length-drop}
 use Rattle.text.specs.Words.{newline, tab, cutWord, leafWord, twoTabs, fourTabs}
-use Rattle.text.specs.Line.{printFields, printLine}
+use Rattle.text.specs.Line.{printFields, printLine, ended}
 use Rattle.text.specs.Text.{unlines}
+use Rattle.text.specs.EndLines.{endLine}
 use Rattle.text.proofs.Texts.{unlines-more}
+use Rattle.text.proofs.Files.{file-parts}
 use Rattle.trees.specs.Words.{leafMark, nodeCount, fieldOf, startOf, countOf}
 use Rattle.trees.proofs.Spelling.{part-is-entries}
-use Rattle.tree_file.specs.TreeLines.{cutNumbers, leafMarks, nodeLine, nodeLines, headLine, endLine, treeText}
+use Rattle.tree_file.specs.TreeLines.{cutNumbers, leafMarks, nodeLine, nodeLines, firstLine, treeText}
 use Rattle.tree_file.proofs.Growing.{cut-line, leaf-line}
-use Rattle.tree_file.proofs.Midway.{lines-step}
+use Rattle.tree_file.proofs.SoFar.{lines-more}
 
 -- ---- a leaf line
 
@@ -47,27 +49,21 @@ module _ (ws es : List ℕ) (i : ℕ) where
 -- ---- the whole text
 
 -- before the first node no line is put
-pub nodes-none : (ws es : List ℕ) → [] ≡ unlines (nodeLines ws es 0)
+pub text-none : (ws es : List ℕ) → unlines (nodeLines ws es 0) ≡ []
 unfolding nodeLines unlines
-nodes-none ws es = refl
+text-none ws es = refl
 
 -- one node more
-pub nodes-more :
+pub text-more :
     (ws es : List ℕ) (i : ℕ) →
     unlines (nodeLines ws es i) ++ (nodeLine ws es i ++ (newline ∷ [])) ≡ unlines (nodeLines ws es (i + 1))
-nodes-more ws es i = rw (lines-step ws es i) (sym (unlines-more (nodeLines ws es i) (nodeLine ws es i)))
+text-more ws es i = rw (lines-more ws es i) (sym (unlines-more (nodeLines ws es i) (nodeLine ws es i)))
 
 -- the first line, those of all nodes, and the end line make the text
 pub text-parts :
     (n : ℕ) (ws es : List ℕ) (i : ℕ) → i ≡ nodeCount ws →
-    ((headLine n (nodeCount ws) (length es) ++ (newline ∷ [])) ++ unlines (nodeLines ws es i)) ++
-    (endLine (nodeCount ws) ++ (newline ∷ [])) ≡
+    (ended (firstLine n (nodeCount ws) (length es)) ++ unlines (nodeLines ws es i)) ++
+    ended (endLine (nodeCount ws + 1)) ≡
     treeText n ws es
-unfolding treeText unlines
-text-parts n ws es i e =
-    let m = nodeCount ws in
-    let head = headLine n m (length es) in
-    let front = append-assoc head (newline ∷ []) (unlines (nodeLines ws es m)) in
-    rw e
-    (ap (λ (u : List ℕ). u ++ (endLine m ++ (newline ∷ []))) front ∙
-    sym (unlines-more (head ∷ nodeLines ws es m) (endLine m)))
+unfolding treeText
+text-parts n ws es i e = rw e (file-parts (firstLine n (nodeCount ws) (length es)) (nodeLines ws es (nodeCount ws)) _)

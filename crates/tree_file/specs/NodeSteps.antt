@@ -4,7 +4,7 @@
 --   Added               what a node adds: its words and entries, and where they are stored
 --   LineRead            a line without its newline: it is wrong, or the node is stored
 --   EntriesRead         the entries of a leaf: the line is wrong, or they are stored
---   NodeRead            a node's line in its text: a refusal, or the node is stored and the cursor stands behind it
+--   NodeLineRead        a node's line in its text: a refusal, or the node is stored and the cursor stands behind it
 use Prim.Native.Nat.{ℕ, _+_, _*_, _≤_, _<_}
 use mathlib.Core.Bool.{cond}
 use mathlib.Core.Path.{_≡_}
@@ -26,7 +26,7 @@ use Rattle.tree_file.specs.declared.read.Counts.{Counts}
 use Rattle.tree_file.specs.declared.node.Node.{Node}
 use Rattle.tree_file.specs.declared.node.Node.the-variants.{Refused, Next}
 use Rattle.tree_file.specs.TreeText.{step}
-use Rattle.tree_file.specs.ReadSteps.{Limits, inNodes, readOn}
+use Rattle.tree_file.specs.ReadSteps.{Limits, inNodes, treeFrom}
 
 abbrev pub onEntries : ℕ → Option (List ℕ) → Option (List ℕ)
 onEntries n none = none
@@ -69,14 +69,14 @@ pub data LineRead (s : List ℕ) (c : Cursor) (k : Counts) (i filled : ℕ) (nod
       step (inNodes k i ws es) (drop (c .at) s) ≡ some (inNodes k (i + 1) (ws ++ xs) (es ++ ys))) →
       LineRead s c k i filled nodes pool nodes′ pool′ (Next sum d)
 
-pub data NodeRead (s : List ℕ) (c : Cursor) (k : Counts) (i filled : ℕ) (nodes pool nodes′ pool′ : List ℕ) :
+pub data NodeLineRead (s : List ℕ) (c : Cursor) (k : Counts) (i filled : ℕ) (nodes pool nodes′ pool′ : List ℕ) :
     Node → Type 0 where
   refuses :
       {why : Refusal} →
-      ((ws es : List ℕ) → length es ≡ filled → readOn (inNodes k i ws es) s c ≡ refused why) →
-      NodeRead s c k i filled nodes pool nodes′ pool′ (Refused why)
+      ((ws es : List ℕ) → length es ≡ filled → treeFrom (inNodes k i ws es) s c ≡ refused why) →
+      NodeLineRead s c k i filled nodes pool nodes′ pool′ (Refused why)
   stores :
       {sum : ℕ} {d : Cursor} (xs ys : List ℕ) → Added k i filled sum nodes pool nodes′ pool′ xs ys → Stands s d →
       ((ws es : List ℕ) → length es ≡ filled →
-      readOn (inNodes k i ws es) s c ≡ readOn (inNodes k (i + 1) (ws ++ xs) (es ++ ys)) s d) →
-      NodeRead s c k i filled nodes pool nodes′ pool′ (Next sum d)
+      treeFrom (inNodes k i ws es) s c ≡ treeFrom (inNodes k (i + 1) (ws ++ xs) (es ++ ys)) s d) →
+      NodeLineRead s c k i filled nodes pool nodes′ pool′ (Next sum d)

@@ -3,10 +3,10 @@
 --                              count and its entries
 --   nodeLine nodes pool i      the line of node i
 --   nodeLines nodes pool i     the lines of the first i nodes
---   headLine, endLine          the first line and the end line
---   treeText n nodes pool      the whole file, there being n rules
+--   firstLine n m p            the first line
+--   treeText n nodes pool      the text of a tree for n rules
 --   Spelling n nodes pool      what a tree is written for: n is at most the most rules, the sizes hold, it is spelt
-use Prim.Native.Nat.{ℕ, zero, suc, _+_, _≤_}
+use Prim.Native.Nat.{ℕ, zero, suc, _≤_}
 use mathlib.Core.Bool.{cond}
 use mathlib.Core.Path.{_≡_}
 use mathlib.Core.List.{List, [], _∷_, _++_}
@@ -15,9 +15,10 @@ use Rattle.refusals.specs.declared.Verdict.the-variants.{Fine}
 use Rattle.rules.specs.Words.{mostRules}
 use Rattle.trees.specs.Words.{nodeCount, fieldOf, valueOf, childOf, countOf, entries, sizeVerdict}
 use Rattle.trees.specs.Spelt.{isCut, Spelt}
-use Rattle.text.specs.Words.{tab, treeWord, cutWord, leafWord, endWord, oneTab, threeTabs, fourTabs}
+use Rattle.text.specs.Words.{tab, treeWord, cutWord, leafWord, threeTabs, fourTabs}
 use Rattle.text.specs.Line.{printLine}
 use Rattle.text.specs.Text.{unlines}
+use Rattle.text.specs.EndLines.{fileLines}
 
 abbrev pub cutNumbers : List ℕ → ℕ → List ℕ
 cutNumbers nodes i = i ∷ fieldOf nodes i ∷ valueOf nodes i ∷ childOf nodes i ∷ []
@@ -37,19 +38,13 @@ unfoldable pub nodeLines : List ℕ → List ℕ → ℕ → List (List ℕ)
 nodeLines nodes pool zero = []
 nodeLines nodes pool (suc i) = nodeLines nodes pool i ++ (nodeLine nodes pool i ∷ [])
 
-abbrev pub headLine : ℕ → ℕ → ℕ → List ℕ
-headLine n m p = printLine treeWord threeTabs (n ∷ m ∷ p ∷ [])
-
-abbrev pub endLine : ℕ → List ℕ
-endLine m = printLine endWord oneTab ((m + 1) ∷ [])
-
-abbrev pub treeLines : ℕ → List ℕ → List ℕ → List (List ℕ)
-treeLines n nodes pool =
-    headLine n (nodeCount nodes) (length pool) ∷
-    (nodeLines nodes pool (nodeCount nodes) ++ (endLine (nodeCount nodes) ∷ []))
+abbrev pub firstLine : ℕ → ℕ → ℕ → List ℕ
+firstLine n m p = printLine treeWord threeTabs (n ∷ m ∷ p ∷ [])
 
 unfoldable pub treeText : ℕ → List ℕ → List ℕ → List ℕ
-treeText n nodes pool = unlines (treeLines n nodes pool)
+treeText n nodes pool =
+    unlines
+    (fileLines (firstLine n (nodeCount nodes) (length pool)) (nodeLines nodes pool (nodeCount nodes)) (nodeCount nodes))
 
 pub record Spelling (n : ℕ) (nodes pool : List ℕ) : Type 0 where
   pub few : n ≤ mostRules

@@ -2,11 +2,10 @@
 --   tree n nodes pool       a tree as words: the number of rules, the words of its nodes, its pool
 --   State                   before the first line; within the nodes, the first line having announced n rules, m nodes
 --                           and p pool words, the first i nodes having these words and entries; past the end line
---   headTest n m p          the counts obey the limits
---   cutTest m i v f c       number v, field f and right child c are those of a cut i among m nodes
---   leafTest n p i k v c    number v and count c are those of a leaf i after k entries: the count is at most the number
+--   countsFit n m p          the counts obey the limits
+--   cutFits m i v f c       number v, field f and right child c are those of a cut i among m nodes
+--   leafFits n p i k v c    number v and count c are those of a leaf i after k entries: the count is at most the number
 --                           of rules, and does not take the pool past its total
---   endTest m p k v         k entries make the pool, and v is the number of lines before the end line
 --   step, finish            what a line makes of a state, none where it is wrong; the tree of a state past the end line
 --   treeIn s                what the text s says: a tree, or 9 or 10
 use Prim.Native.Nat.{ℕ, _+_}
@@ -21,6 +20,7 @@ use Rattle.trees.specs.Words.{mostNodes, mostPool, leafMark}
 use Rattle.text.specs.Words.{treeWord, cutWord, leafWord, endWord, oneTab, threeTabs, fourTabs}
 use Rattle.text.specs.Line.{readLine, readCounted}
 use Rattle.text.specs.Text.{split, Reading, readAll}
+use Rattle.text.specs.EndLines.{onEnd}
 
 pub data Tree : Type 0 where
   tree : ℕ → List ℕ → List ℕ → Tree
@@ -30,33 +30,30 @@ pub data State : Type 0 where
   within : ℕ → ℕ → ℕ → ℕ → List ℕ → List ℕ → State
   over : Tree → State
 
-unfoldable pub headTest : ℕ → ℕ → ℕ → Bool
-headTest n m p = leb n mostRules && ltb 0 m && leb m mostNodes && leb p mostPool
+unfoldable pub countsFit : ℕ → ℕ → ℕ → Bool
+countsFit n m p = leb n mostRules && ltb 0 m && leb m mostNodes && leb p mostPool
 
-unfoldable pub cutTest : ℕ → ℕ → ℕ → ℕ → ℕ → Bool
-cutTest m i v f c = eqb v i && ltb f leafMark && ltb c m
+unfoldable pub cutFits : ℕ → ℕ → ℕ → ℕ → ℕ → Bool
+cutFits m i v f c = eqb v i && ltb f leafMark && ltb c m
 
-unfoldable pub leafTest : ℕ → ℕ → ℕ → ℕ → ℕ → ℕ → Bool
-leafTest n p i k v c = eqb v i && leb c n && leb (k + c) p
+unfoldable pub leafFits : ℕ → ℕ → ℕ → ℕ → ℕ → ℕ → Bool
+leafFits n p i k v c = eqb v i && leb c n && leb (k + c) p
 
-unfoldable pub endTest : ℕ → ℕ → ℕ → ℕ → Bool
-endTest m p k v = eqb k p && eqb v (m + 1)
-
-abbrev pub onHead : Option (List ℕ) → Option State
-onHead none = none
-onHead (some v) =
-    cond (headTest (getD v 0 0) (getD v 1 0) (getD v 2 0))
+abbrev pub onFirst : Option (List ℕ) → Option State
+onFirst none = none
+onFirst (some v) =
+    cond (countsFit (getD v 0 0) (getD v 1 0) (getD v 2 0))
     (some (within (getD v 0 0) (getD v 1 0) (getD v 2 0) 0 [] [])) none
 
 abbrev pub onCut : ℕ → ℕ → ℕ → ℕ → List ℕ → List ℕ → List ℕ → Option State
 onCut n m p i ws es v =
-    cond (cutTest m i (getD v 0 0) (getD v 1 0) (getD v 3 0))
+    cond (cutFits m i (getD v 0 0) (getD v 1 0) (getD v 3 0))
     (some (within n m p (i + 1) (ws ++ (getD v 1 0 ∷ getD v 2 0 ∷ getD v 3 0 ∷ [])) es)) none
 
 abbrev pub onLeaf : ℕ → ℕ → ℕ → ℕ → List ℕ → List ℕ → Option (List ℕ) → Option State
 onLeaf n m p i ws es none = none
 onLeaf n m p i ws es (some v) =
-    cond (leafTest n p i (length es) (getD v 0 0) (getD v 1 0) && allUnder n (drop 2 v))
+    cond (leafFits n p i (length es) (getD v 0 0) (getD v 1 0) && allUnder n (drop 2 v))
     (some (within n m p (i + 1) (ws ++ (leafMark ∷ length es ∷ getD v 1 0 ∷ [])) (es ++ drop 2 v))) none
 
 -- a cut line, or else a leaf line
@@ -64,15 +61,11 @@ abbrev pub onNode : ℕ → ℕ → ℕ → ℕ → List ℕ → List ℕ → Op
 onNode n m p i ws es (some v) leaf = onCut n m p i ws es v
 onNode n m p i ws es none leaf = onLeaf n m p i ws es leaf
 
-abbrev pub onEnd : ℕ → ℕ → ℕ → List ℕ → List ℕ → Option (List ℕ) → Option State
-onEnd n m p ws es none = none
-onEnd n m p ws es (some v) = cond (endTest m p (length es) (getD v 0 0)) (some (over (tree n ws es))) none
-
 unfoldable pub step : State → List ℕ → Option State
-step start l = onHead (readLine treeWord threeTabs l)
+step start l = onFirst (readLine treeWord threeTabs l)
 step (within n m p i ws es) l =
     cond (ltb i m) (onNode n m p i ws es (readLine cutWord fourTabs l) (readCounted leafWord l))
-    (onEnd n m p ws es (readLine endWord oneTab l))
+    (onEnd (eqb (length es) p) (m + 1) (over (tree n ws es)) (readLine endWord oneTab l))
 step (over t) l = none
 
 unfoldable pub finish : State → Option Tree

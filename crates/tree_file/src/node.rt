@@ -1,6 +1,5 @@
 // One node's line: a cut's or a leaf's.
 use crate::read::Counts;
-use crate::words::store;
 use crate::words::store_node;
 use crate::words::wide;
 use refusals::Refusal;
@@ -9,6 +8,7 @@ use text::cursor::LineEnd;
 use text::cursor::Number;
 use text::cursor::Step;
 use text::cursor::wrong;
+use text::store::store;
 use text::words::CUT;
 use text::words::FOUR_TABS;
 use text::words::LEAF;
@@ -23,8 +23,8 @@ ghost use Rattle.text.specs.Words.{cutWord, fourTabs};
 ghost use Rattle.text.specs.Line.{readLine};
 ghost use Rattle.text.specs.Onward.{Stands};
 ghost use Rattle.trees.specs.Words.{mostPool};
-ghost use Rattle.tree_file.specs.TreeText.{cutTest, leafTest};
-ghost use Rattle.tree_file.specs.NodeSteps.{Turn, EntriesRead, LineRead, NodeRead};
+ghost use Rattle.tree_file.specs.TreeText.{cutFits, leafFits};
+ghost use Rattle.tree_file.specs.NodeSteps.{Turn, EntriesRead, LineRead, NodeLineRead};
 
 // What a node's line comes to: a refusal; or the entries up to here, and the cursor behind the line.
 pub enum Node {
@@ -44,7 +44,7 @@ pub(crate) fn node_line(
     pool: &mut [u32],
 ) -> Node
     requires { ⌜ Stands (now text) here × Turn counts i filled ⌝ }
-    ensures { λ r. ⌜ NodeRead (now (text .entry)) here counts i filled (now (nodes .entry)) (now (pool .entry))
+    ensures { λ r. ⌜ NodeLineRead (now (text .entry)) here counts i filled (now (nodes .entry)) (now (pool .entry))
         (now (nodes .exit)) (now (pool .exit)) r ⌝ }
 {
     match here.line_end(text) {
@@ -84,7 +84,7 @@ fn node_in(
 
 // Whether these are the numbers of cut `i`: its field is one, and its right child a node.
 fn cut_fits(nodes: usize, i: usize, number: u32, field: u32, child: u32) -> bool
-    ensures { λ r. ⌜ r ≡ cutTest nodes i number field child ⌝ }
+    ensures { λ r. ⌜ r ≡ cutFits nodes i number field child ⌝ }
 {
     if wide(number) != i {
         return false;
@@ -130,7 +130,7 @@ fn leaf_in(
 // its total.
 fn leaf_fits(counts: Counts, i: usize, filled: usize, number: u32, count: u32) -> bool
     requires { ⌜ filled ≤ mostPool ⌝ }
-    ensures { λ r. ⌜ r ≡ leafTest (counts .rules) (counts .pool) i filled number count ⌝ }
+    ensures { λ r. ⌜ r ≡ leafFits (counts .rules) (counts .pool) i filled number count ⌝ }
 {
     if wide(number) != i {
         return false;

@@ -7,8 +7,8 @@ use rules::words::MOST_RULES;
 use text::cursor::Cursor;
 use text::cursor::Step;
 use text::cursor::wrong;
-use text::words::END;
-use text::words::ONE_TAB;
+use text::end::Ending;
+use text::end::end_line;
 use text::words::THREE_TABS;
 use text::words::TREE;
 use trees::words::MOST_NODES;
@@ -16,9 +16,9 @@ use trees::words::MOST_POOL;
 use trees::words::NODE_WORDS;
 ghost use mathlib.Core.Path.{_≡_};
 ghost use Rattle.text.specs.Onward.{Stands};
-ghost use Rattle.tree_file.specs.TreeText.{headTest, treeIn};
+ghost use Rattle.tree_file.specs.TreeText.{countsFit, treeIn};
 ghost use Rattle.tree_file.specs.Reading.{TreeRead};
-ghost use Rattle.tree_file.specs.ReadSteps.{Limits, HeadRead, EndRead, PassRead, readOn, begun};
+ghost use Rattle.tree_file.specs.ReadSteps.{Limits, FirstLineRead, PassRead, treeFrom, begun};
 
 pub enum Read {
     Refused(Refusal),
@@ -36,7 +36,8 @@ pub struct Counts {
     pub pool: usize,
 }
 
-pub enum Head {
+// What the first line says: the counts that it announces, and where the nodes begin.
+pub enum First {
     Refused(Refusal),
     Announces(Counts, Cursor),
 }
@@ -77,37 +78,37 @@ fn read_pass(text: &[u8], nodes: &mut [u32], pool: &mut [u32]) -> Read
     ensures { λ r. ⌜ PassRead (treeIn (now (text .entry))) (now (nodes .entry)) (now (pool .entry)) (now (nodes .exit))
         (now (pool .exit)) r ⌝ }
 {
-    match head_line(text) {
-        Head::Refused(why) => Read::Refused(why),
-        Head::Announces(counts, next) => body(text, next, counts, nodes, pool),
+    match first_line(text) {
+        First::Refused(why) => Read::Refused(why),
+        First::Announces(counts, next) => node_lines(text, next, counts, nodes, pool),
     }
 }
 
 // The first line, which announces the counts.
-fn head_line(text: &[u8]) -> Head
-    ensures { λ r. ⌜ HeadRead (now (text .entry)) r ⌝ }
+fn first_line(text: &[u8]) -> First
+    ensures { λ r. ⌜ FirstLineRead (now (text .entry)) r ⌝ }
 {
     let start = Cursor { at: 0, lines: 0 };
     let read = start.line(text, &TREE, &THREE_TABS);
     let said = read.said;
     let values = read.values;
     match said {
-        Step::Refused(why) => Head::Refused(why),
+        Step::Refused(why) => First::Refused(why),
         Step::Next(next) => {
             let rules = wide(values[0]);
             let nodes = wide(values[1]);
             let pool = wide(values[2]);
             if !counts_fit(rules, nodes, pool) {
-                return Head::Refused(wrong(0));
+                return First::Refused(wrong(0));
             }
-            Head::Announces(Counts { rules, nodes, pool }, next)
+            First::Announces(Counts { rules, nodes, pool }, next)
         }
     }
 }
 
 // Whether the counts obey the limits.
 fn counts_fit(rules: usize, nodes: usize, pool: usize) -> bool
-    ensures { λ r. ⌜ r ≡ headTest rules nodes pool ⌝ }
+    ensures { λ r. ⌜ r ≡ countsFit rules nodes pool ⌝ }
 {
     if MOST_RULES < rules {
         return false;
@@ -121,10 +122,16 @@ fn counts_fit(rules: usize, nodes: usize, pool: usize) -> bool
     pool <= MOST_POOL
 }
 
-// The nodes in turn, and then the end line.
-fn body(text: &[u8], next: Cursor, counts: Counts, nodes: &mut [u32], pool: &mut [u32]) -> Read
+// The lines of the nodes, and the end line: a pool that falls short shows there.
+fn node_lines(
+    text: &[u8],
+    next: Cursor,
+    counts: Counts,
+    nodes: &mut [u32],
+    pool: &mut [u32],
+) -> Read
     requires { ⌜ Stands (now text) next × Limits counts ⌝ }
-    ensures { λ r. ⌜ PassRead (readOn (begun counts) (now (text .entry)) next) (now (nodes .entry))
+    ensures { λ r. ⌜ PassRead (treeFrom (begun counts) (now (text .entry)) next) (now (nodes .entry))
         (now (pool .entry)) (now (nodes .exit)) (now (pool .exit)) r ⌝ }
 {
     let count = counts.nodes;
@@ -144,36 +151,12 @@ fn body(text: &[u8], next: Cursor, counts: Counts, nodes: &mut [u32], pool: &mut
         }
         i += 1;
     }
-    end_line(text, Cursor { at, lines }, counts, filled)
-}
-
-// The end line: a pool that falls short shows here, and nothing may follow.
-fn end_line(text: &[u8], here: Cursor, counts: Counts, filled: usize) -> Read
-    requires { ⌜ Stands (now text) here × Limits counts ⌝ }
-    ensures { λ r. ⌜ EndRead (now (text .entry)) here counts filled r ⌝ }
-{
-    let lines = here.lines;
-    let read = here.line(text, &END, &ONE_TAB);
-    let said = read.said;
-    let values = read.values;
-    match said {
-        Step::Refused(why) => Read::Refused(why),
-        Step::Next(next) => {
-            if filled != counts.pool {
-                return Read::Refused(wrong(lines));
-            }
-            if wide(values[0]) != counts.nodes + 1 {
-                return Read::Refused(wrong(lines));
-            }
-            let at = next.at;
-            if at < text.len() {
-                return Read::Refused(wrong(next.lines));
-            }
-            Read::Tree {
-                rules: counts.rules,
-                nodes: counts.nodes,
-                pool: counts.pool,
-            }
-        }
+    match end_line(text, Cursor { at, lines }, filled == counts.pool, count + 1) {
+        Ending::Refused(why) => Read::Refused(why),
+        Ending::Over => Read::Tree {
+            rules: counts.rules,
+            nodes: counts.nodes,
+            pool: counts.pool,
+        },
     }
 }

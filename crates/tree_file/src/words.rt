@@ -1,4 +1,5 @@
-// Words of 32 bits: as a place or a count, and stored as far as there is room.
+// Words of 32 bits: as a place or a count, and those of a node.
+use text::store::store;
 use trees::words::CHILD;
 use trees::words::NODE_WORDS;
 use trees::words::VALUE;
@@ -17,15 +18,6 @@ pub(crate) fn store_node(nodes: &mut [u32], i: usize, first: u32, second: u32, t
     store(nodes, at, first);
     store(nodes, at + VALUE, second);
     store(nodes, at + CHILD, third);
-}
-
-// One word.
-pub(crate) fn store(words: &mut [u32], at: usize, word: u32)
-    ensures { λ _. ⌜ now (words .exit) ≡ sets (now (words .entry)) at (word ∷ []) ⌝ }
-{
-    if at < words.len() {
-        words[at] = word;
-    }
 }
 
 // A word as a place or a count.

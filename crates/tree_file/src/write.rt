@@ -3,6 +3,7 @@ use crate::words::wide;
 use refusals::Refusal;
 use refusals::Verdict;
 use rules::words::MOST_RULES;
+use text::end::put_end;
 use text::put::Written;
 use text::put::put;
 use text::put::put_bytes;
@@ -10,11 +11,9 @@ use text::put::put_fields;
 use text::put::put_line;
 use text::put::put_numbers;
 use text::words::CUT;
-use text::words::END;
 use text::words::FOUR_TABS;
 use text::words::LEAF;
 use text::words::NEWLINE;
-use text::words::ONE_TAB;
 use text::words::THREE_TABS;
 use text::words::TREE;
 use text::words::TWO_TABS;
@@ -25,16 +24,14 @@ use trees::words::FIRST;
 use trees::words::LEAF_MARK;
 use trees::words::NODE_WORDS;
 use trees::words::VALUE;
-ghost use Prim.Native.Nat.{_≤_};
 ghost use mathlib.Core.Path.{_≡_};
-ghost use mathlib.Core.List.{[], _∷_, _++_};
+ghost use mathlib.Core.List.{[], _∷_};
 ghost use lib.ListN.{length};
-ghost use Rattle.trees.specs.Words.{mostNodes};
-ghost use Rattle.text.specs.Words.{newline, cutWord, leafWord, fourTabs};
-ghost use Rattle.text.specs.Line.{printLine};
+ghost use Rattle.text.specs.Words.{cutWord, leafWord, fourTabs};
+ghost use Rattle.text.specs.Line.{printLine, ended};
 ghost use Rattle.text.specs.Puts.{Put};
 ghost use Rattle.text.specs.Said.{Said};
-ghost use Rattle.tree_file.specs.TreeLines.{headLine, endLine, nodeLine, leafMarks, treeText, Spelling};
+ghost use Rattle.tree_file.specs.TreeLines.{firstLine, nodeLine, leafMarks, treeText, Spelling};
 ghost use Rattle.tree_file.specs.Writing.{spellingVerdict, TreeWritten};
 ghost use Rattle.tree_file.specs.WriteSteps.{Writable};
 
@@ -85,18 +82,18 @@ fn write_pass(rules: usize, nodes: &[u32], pool: &[u32], text: &mut [u8]) -> usi
         (now (text .exit)) r ⌝ }
 {
     let count = nodes.len() / NODE_WORDS;
-    let mut at = put_head(text, rules as u32, count as u32, pool.len() as u32);
+    let mut at = put_first(text, rules as u32, count as u32, pool.len() as u32);
     let mut i = 0;
     while i < count {
         at = put_node(text, at, nodes, pool, i);
         i += 1;
     }
-    put_end(text, at, count as u32)
+    put_end(text, at, count as u32 + 1)
 }
 
 // The first line.
-fn put_head(text: &mut [u8], rules: u32, nodes: u32, pool: u32) -> usize
-    ensures { λ r. ⌜ Put (now (text .entry)) 0 (headLine rules nodes pool ++ (newline ∷ [])) (now (text .exit)) r ⌝ }
+fn put_first(text: &mut [u8], rules: u32, nodes: u32, pool: u32) -> usize
+    ensures { λ r. ⌜ Put (now (text .entry)) 0 (ended (firstLine rules nodes pool)) (now (text .exit)) r ⌝ }
 {
     let values = [rules, nodes, pool];
     put_line(text, 0, &TREE, &THREE_TABS, &values)
@@ -105,7 +102,7 @@ fn put_head(text: &mut [u8], rules: u32, nodes: u32, pool: u32) -> usize
 // The line of node `i`. A leaf's start and count stand where a cut has its value and its right child.
 fn put_node(text: &mut [u8], at: usize, nodes: &[u32], pool: &[u32], i: usize) -> usize
     requires { ⌜ Writable (now nodes) (now pool) i ⌝ }
-    ensures { λ r. ⌜ Put (now (text .entry)) at (nodeLine (now (nodes .entry)) (now (pool .entry)) i ++ (newline ∷ []))
+    ensures { λ r. ⌜ Put (now (text .entry)) at (ended (nodeLine (now (nodes .entry)) (now (pool .entry)) i))
         (now (text .exit)) r ⌝ }
 {
     let first = nodes[i * NODE_WORDS + FIRST];
@@ -122,7 +119,7 @@ fn put_node(text: &mut [u8], at: usize, nodes: &[u32], pool: &[u32], i: usize) -
 // The line of a cut.
 fn put_cut(text: &mut [u8], at: usize, i: u32, field: u32, value: u32, child: u32) -> usize
     ensures { λ r. ⌜ Put (now (text .entry)) at
-        (printLine cutWord fourTabs (i ∷ field ∷ value ∷ child ∷ []) ++ (newline ∷ [])) (now (text .exit)) r ⌝ }
+        (ended (printLine cutWord fourTabs (i ∷ field ∷ value ∷ child ∷ []))) (now (text .exit)) r ⌝ }
 {
     let values = [i, field, value, child];
     put_line(text, at, &CUT, &FOUR_TABS, &values)
@@ -131,21 +128,12 @@ fn put_cut(text: &mut [u8], at: usize, i: u32, field: u32, value: u32, child: u3
 // The line of a leaf.
 fn put_leaf(text: &mut [u8], at: usize, i: u32, count: u32, entries: &[u32]) -> usize
     ensures { λ r. ⌜ Put (now (text .entry)) at
-        (printLine leafWord (leafMarks (length (now (entries .entry)))) (i ∷ count ∷ now (entries .entry)) ++
-        (newline ∷ [])) (now (text .exit)) r ⌝ }
+        (ended (printLine leafWord (leafMarks (length (now (entries .entry)))) (i ∷ count ∷ now (entries .entry))))
+        (now (text .exit)) r ⌝ }
 {
     let p = put_bytes(text, at, &LEAF);
     let values = [i, count];
     let q = put_fields(text, p, &TWO_TABS, &values);
     let r = put_numbers(text, q, entries);
     put(text, r, NEWLINE)
-}
-
-// The end line.
-fn put_end(text: &mut [u8], at: usize, nodes: u32) -> usize
-    requires { ⌜ nodes ≤ mostNodes ⌝ }
-    ensures { λ r. ⌜ Put (now (text .entry)) at (endLine nodes ++ (newline ∷ [])) (now (text .exit)) r ⌝ }
-{
-    let values = [nodes + 1];
-    put_line(text, at, &END, &ONE_TAB, &values)
 }

@@ -2,7 +2,7 @@
 use native.Mathlib.Omega.{arith}
 use borrow.Author.Needs.{needs}
 use Rattle.text.proofs.NextLines.{line-next, line-refused}
-use Rattle.rule_file.proofs.Reader.{head-taken, head-wrong, head-not}
+use Rattle.rule_file.proofs.ReadLines.{first-taken, first-wrong, first-not}
 use Rattle.rule_file.proofs.read.first_line.Statement.{statement}
 use Rattle.rule_file.proofs.read.first_line.Tie as tie
 
@@ -36,14 +36,14 @@ returns c =
     let l = m .before .before .before in
     let w = l .before .before .before .before in
     let taken = line-next _ _ _ _ (l .line .ensures) (m .said2 .given .1) in
-    head-wrong (omega (arith, w .good)) taken (c .before .if1 .taken) (c .wrong .ensures)
+    first-wrong (omega (arith, w .good)) taken (c .before .if1 .taken) (c .wrong .ensures)
 
 returns-2 : tie.Need-returns-2
 returns-2 c =
     let m = c .before in
     let l = m .before .before .before in
     let w = l .before .before .before .before in
-    head-not (omega (arith, w .good)) (line-refused _ _ _ _ (l .line .ensures) (m .said .given .1))
+    first-not (omega (arith, w .good)) (line-refused _ _ _ _ (l .line .ensures) (m .said .given .1))
 
 returns-3 : tie.Need-returns-3
 returns-3 c =
@@ -51,7 +51,7 @@ returns-3 c =
     let l = m .before .before .before in
     let w = l .before .before .before .before in
     let taken = line-next _ _ _ _ (l .line .ensures) (m .said2 .given .1) in
-    head-taken (omega (arith, w .good)) taken (c .if1 .left)
+    first-taken (omega (arith, w .good)) taken (c .if1 .left)
 
 pub first-line-spec : {M : Type 1} → statement M
 first-line-spec =

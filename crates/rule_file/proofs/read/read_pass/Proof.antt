@@ -2,7 +2,7 @@
 use mathlib.Core.Path.{subst}
 use denote.Ref.{now}
 use borrow.Author.Needs.{needs}
-use Rattle.rule_file.specs.ReadSteps.{HeadIs}
+use Rattle.rule_file.specs.ReadSteps.{FirstLineRead}
 use Rattle.rule_file.proofs.read.read_pass.Statement.{statement}
 use Rattle.rule_file.proofs.read.read_pass.Tie as tie
 
@@ -19,14 +19,14 @@ rule-lines-requires : tie.Need-rule-lines-requires
 rule-lines-requires c κs =
     let f = c .before .before .before .before in
     let w = f .before .before .before in
-    let h = subst (HeadIs (now (w .args .text))) (c .before .before .n .given .1) (f .first-line .ensures) in
+    let h = subst (FirstLineRead (now (w .args .text))) (c .before .before .n .given .1) (f .first-line .ensures) in
     (h .stands, h .few)
 
 returns : tie.Need-returns
 returns c =
     let f = c .before .before .before in
     let w = f .before .before .before in
-    subst (HeadIs (now (w .args .text))) (c .before .why .given .1) (f .first-line .ensures)
+    subst (FirstLineRead (now (w .args .text))) (c .before .why .given .1) (f .first-line .ensures)
 
 same-length : tie.Need-same-length
 same-length c = search needs
@@ -36,7 +36,7 @@ returns-2 c =
     let m = c .before .before .before .before .before in
     let f = m .before .before in
     let w = f .before .before .before in
-    let h = subst (HeadIs (now (w .args .text))) (m .n .given .1) (f .first-line .ensures) in
+    let h = subst (FirstLineRead (now (w .args .text))) (m .n .given .1) (f .first-line .ensures) in
     rw (h .moved) (c .before .before .rule-lines .ensures)
 
 pub read-pass-spec : {M : Type 1} → statement M

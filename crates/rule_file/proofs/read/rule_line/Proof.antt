@@ -4,7 +4,7 @@ use native.Mathlib.Omega.{arith}
 use borrow.Author.Needs.{needs}
 use Rattle.facts.proofs.Bools.{held, failed}
 use Rattle.text.proofs.NextLines.{line-next, line-refused}
-use Rattle.rule_file.proofs.Reader.{rule-taken, rule-wrong, rule-not}
+use Rattle.rule_file.proofs.ReadLines.{rule-taken, rule-wrong, rule-not}
 use Rattle.rule_file.proofs.read.rule_line.Statement.{statement}
 use Rattle.rule_file.proofs.read.rule_line.Tie as tie
 
@@ -23,8 +23,8 @@ enum-known-said c = search needs
 enum-known-said-2 : tie.Need-enum-known-said-2
 enum-known-said-2 c = search needs
 
-rule-test-requires : tie.Need-rule-test-requires
-rule-test-requires c κs = search needs
+rule-fits-requires : tie.Need-rule-fits-requires
+rule-fits-requires c κs = search needs
 
 wrong-requires : tie.Need-wrong-requires
 wrong-requires c κs = search needs
@@ -35,14 +35,14 @@ returns c =
     let l = m .before .before .before in
     let w = l .before .before .before .before .before in
     let taken = line-next _ _ _ _ (l .line .ensures) (m .said2 .given .1) in
-    let test = failed (c .before .before .rule-test .ensures) (c .before .if1 .taken) in
+    let test = failed (c .before .before .rule-fits .ensures) (c .before .if1 .taken) in
     rule-wrong (omega (arith, w .good)) (w .pre .0) _ taken test (c .wrong .ensures)
 
 rule-of-requires : tie.Need-rule-of-requires
 rule-of-requires c κs = search needs
 
-put-words-requires : tie.Need-put-words-requires
-put-words-requires c κs =
+store-rule-requires : tie.Need-store-rule-requires
+store-rule-requires c κs =
     let m = c .before .before .before .before .before in
     let w = m .before .before .before .before .before .before .before .before in
     w .pre .1
@@ -66,8 +66,8 @@ returns-3 c =
     let l = m .before .before .before in
     let w = l .before .before .before .before .before in
     let taken = line-next _ _ _ _ (l .line .ensures) (m .said2 .given .1) in
-    let test = held (t .before .rule-test .ensures) (t .if1 .left) in
-    let put = rw (p .before .rule-of .ensures) at (p .put-words .ensures) in
+    let test = held (t .before .rule-fits .ensures) (t .if1 .left) in
+    let put = rw (p .before .rule-of .ensures) at (p .store-rule .ensures) in
     rule-taken (omega (arith, w .good)) (w .pre .0) _ taken test put
 
 pub rule-line-spec : {M : Type 1} → statement M
@@ -79,11 +79,11 @@ rule-line-spec =
     line-requires
     enum-known-said
     enum-known-said-2
-    rule-test-requires
+    rule-fits-requires
     wrong-requires
     returns
     rule-of-requires
-    put-words-requires
+    store-rule-requires
     returns-2
     same-length
     returns-3)

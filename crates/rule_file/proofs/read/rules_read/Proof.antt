@@ -6,7 +6,7 @@ use lib.ListN.{take}
 use denote.Ref.{now}
 use borrow.Author.Needs.{needs}
 use Rattle.rule_file.specs.RuleText.{rulesIn}
-use Rattle.rule_file.specs.ReadSteps.{PassIs}
+use Rattle.rule_file.specs.ReadSteps.{PassRead}
 use Rattle.rule_file.proofs.ReadAnswers.{text-refused, room-refused, read-again}
 use Rattle.rule_file.proofs.read.rules_read.Statement.{statement}
 use Rattle.rule_file.proofs.read.rules_read.Tie as tie
@@ -30,7 +30,7 @@ mul-needed : tie.Need-mul-needed
 mul-needed c =
     let p = c .before .before .before .before .before in
     let w = p .before .before .before .before in
-    let Is = PassIs (rulesIn (now (w .args .text))) (take 0 (now (w .args .rules))) _ in
+    let Is = PassRead (rulesIn (now (w .args .text))) (take 0 (now (w .args .rules))) _ in
     let first = subst Is (c .before .count .given .1) (p .read-pass .ensures) in
     omega (arith, first .few)
 
@@ -41,7 +41,7 @@ returns : tie.Need-returns
 returns c =
     let p = c .before .before .before .before .before .before in
     let w = p .before .before .before .before in
-    let Is = PassIs (rulesIn (now (w .args .text))) (take 0 (now (w .args .rules))) _ in
+    let Is = PassRead (rulesIn (now (w .args .text))) (take 0 (now (w .args .rules))) _ in
     let first = subst Is (c .before .before .count .given .1) (p .read-pass .ensures) in
     room-refused _ (p .read-pass .last .1 .0) (p .read-pass .kept .1 .0) first refl (c .if1 .taken)
 
@@ -55,7 +55,7 @@ returns-2 : tie.Need-returns-2
 returns-2 c =
     let p = c .before .before .before .before .before in
     let w = p .before .before .before .before in
-    let Is = PassIs (rulesIn (now (w .args .text))) (take 0 (now (w .args .rules))) _ in
+    let Is = PassRead (rulesIn (now (w .args .text))) (take 0 (now (w .args .rules))) _ in
     text-refused _ (p .read-pass .last .1 .0) (p .read-pass .kept .1 .0)
     (subst Is (c .before .why .given .1) (p .read-pass .ensures))
 
@@ -68,7 +68,7 @@ returns-3 c =
     let m = q .before .before .before .before in
     let p = m .before .before .before .before in
     let w = p .before .before .before .before in
-    let Is = PassIs (rulesIn (now (w .args .text))) (take 0 (now (w .args .rules))) _ in
+    let Is = PassRead (rulesIn (now (w .args .text))) (take 0 (now (w .args .rules))) _ in
     let first = subst Is (m .count .given .1) (p .read-pass .ensures) in
     read-again _ (p .read-pass .last .1 .0) (p .read-pass .kept .1 .0) first _ (q .before .before .if1 .left)
     (q .read-pass2 .ensures)

@@ -4,10 +4,9 @@ use mathlib.Core.Path.{ap, _∙_}
 use mathlib.Core.List.{List}
 use borrow.Author.Needs.{needs}
 use Rattle.text.specs.Words.{ruleWord, ruleMarks}
-use Rattle.text.specs.Line.{printLine}
+use Rattle.text.specs.Line.{printLine, ended}
 use Rattle.text.proofs.Puts.{put-same}
 use Rattle.rule_file.specs.Records.{ruleValues}
-use Rattle.rule_file.specs.RuleText.{ended}
 use Rattle.rule_file.proofs.write.put_rule.Statement.{statement}
 use Rattle.rule_file.proofs.write.put_rule.Tie as tie
 

@@ -1,8 +1,8 @@
--- `tree_file::node::cut_fits` meets its contract: the tests are those of `cutTest`, in its order. Assumes nothing.
+-- `tree_file::node::cut_fits` meets its contract: the tests are those of `cutFits`, in its order. Assumes nothing.
 use mathlib.Core.Path.{sym, _∙_}
 use borrow.Author.Needs.{needs}
 use borrow.Author.Tests.{lt-ltb, le-ltb, eq-eqb, ne-eqb}
-use Rattle.tree_file.specs.TreeText.{cutTest}
+use Rattle.tree_file.specs.TreeText.{cutFits}
 use Rattle.tree_file.proofs.node.cut_fits.Statement.{statement}
 use Rattle.tree_file.proofs.node.cut_fits.Tie as tie
 
@@ -10,14 +10,14 @@ wide-requires : tie.Need-wide-requires
 wide-requires c κs = search needs
 
 returns : tie.Need-returns
-unfolding cutTest
+unfolding cutFits
 returns c = rw (ne-eqb _ _ (λ e. c .if1 .taken (c .before .wide .ensures ∙ e)))
 
 wide-requires-2 : tie.Need-wide-requires-2
 wide-requires-2 c κs = search needs
 
 returns-2 : tie.Need-returns-2
-unfolding cutTest
+unfolding cutFits
 returns-2 c =
     let w = c .before .before in
     rw (
@@ -29,7 +29,7 @@ wide-requires-3 : tie.Need-wide-requires-3
 wide-requires-3 c κs = search needs
 
 returns-3 : tie.Need-returns-3
-unfolding cutTest
+unfolding cutFits
 returns-3 c =
     let w = c .before .before .before in
     rw (

@@ -1,9 +1,9 @@
--- `tree_file::node::leaf_fits` meets its contract: the tests are those of `leafTest`, in its order. Assumes nothing.
+-- `tree_file::node::leaf_fits` meets its contract: the tests are those of `leafFits`, in its order. Assumes nothing.
 use native.Mathlib.Omega.{arith}
 use mathlib.Core.Path.{sym, _∙_}
 use borrow.Author.Needs.{needs}
 use borrow.Author.Tests.{le-leb, lt-leb, eq-eqb, ne-eqb}
-use Rattle.tree_file.specs.TreeText.{leafTest}
+use Rattle.tree_file.specs.TreeText.{leafFits}
 use Rattle.tree_file.proofs.node.leaf_fits.Statement.{statement}
 use Rattle.tree_file.proofs.node.leaf_fits.Tie as tie
 
@@ -11,14 +11,14 @@ wide-requires : tie.Need-wide-requires
 wide-requires c κs = search needs
 
 returns : tie.Need-returns
-unfolding leafTest
+unfolding leafFits
 returns c = rw (ne-eqb _ _ (λ e. c .if1 .taken (c .before .wide .ensures ∙ e)))
 
 wide-requires-2 : tie.Need-wide-requires-2
 wide-requires-2 c κs = search needs
 
 returns-2 : tie.Need-returns-2
-unfolding leafTest
+unfolding leafFits
 returns-2 c =
     let w = c .before .before .before in
     rw (
@@ -33,7 +33,7 @@ add-result : tie.Need-add-result
 add-result c = omega arith
 
 returns-3 : tie.Need-returns-3
-unfolding leafTest
+unfolding leafFits
 returns-3 c =
     let w = c .before .before .before .before .before in
     rw (

@@ -3,7 +3,7 @@ use native.Mathlib.Omega.{arith}
 use borrow.Author.Needs.{needs}
 use Rattle.facts.proofs.Bools.{held, failed}
 use Rattle.text.proofs.Views.{fields-next, fields-refused}
-use Rattle.tree_file.proofs.Midway.{few-of}
+use Rattle.tree_file.proofs.SoFar.{few-of}
 use Rattle.tree_file.proofs.Tests.{leaf-passes}
 use Rattle.tree_file.proofs.NodeLine.{leaf-misfits, leaf-stores}
 use Rattle.tree_file.proofs.NodeLine as line

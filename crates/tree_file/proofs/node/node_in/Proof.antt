@@ -4,7 +4,7 @@ use native.Mathlib.Omega.{arith}
 use borrow.Author.Needs.{needs}
 use Rattle.facts.proofs.Bools.{held, failed}
 use Rattle.text.proofs.LineViews.{whole-next, whole-refused}
-use Rattle.tree_file.proofs.Midway.{few-of}
+use Rattle.tree_file.proofs.SoFar.{few-of}
 use Rattle.tree_file.proofs.NodeLine.{cut-misfits, cut-stores}
 use Rattle.tree_file.proofs.node.node_in.Statement.{statement}
 use Rattle.tree_file.proofs.node.node_in.Tie as tie

@@ -1,20 +1,20 @@
--- `tree_file::read::counts_fit` meets its contract: the tests are those of `headTest`, in its order. Assumes nothing.
+-- `tree_file::read::counts_fit` meets its contract: the tests are those of `countsFit`, in its order. Assumes nothing.
 use native.Mathlib.Omega.{arith}
 use borrow.Author.Tests.{lt-ltb, le-ltb, le-leb, lt-leb}
-use Rattle.tree_file.specs.TreeText.{headTest}
+use Rattle.tree_file.specs.TreeText.{countsFit}
 use Rattle.tree_file.proofs.read.counts_fit.Statement.{statement}
 use Rattle.tree_file.proofs.read.counts_fit.Tie as tie
 
 returns : tie.Need-returns
-unfolding headTest
+unfolding countsFit
 returns c = rw (lt-leb _ _ (c .if1 .taken))
 
 returns-2 : tie.Need-returns-2
-unfolding headTest
+unfolding countsFit
 returns-2 c = rw (le-leb _ _ (c .before .if1 .left), le-ltb 0 (c .before .before .args .nodes) (omega arith))
 
 returns-3 : tie.Need-returns-3
-unfolding headTest
+unfolding countsFit
 returns-3 c =
     rw (
       le-leb _ _ (c .before .before .if1 .left),
@@ -23,7 +23,7 @@ returns-3 c =
     )
 
 returns-4 : tie.Need-returns-4
-unfolding headTest
+unfolding countsFit
 returns-4 c =
     rw (
       le-leb _ _ (c .before .before .if1 .left),

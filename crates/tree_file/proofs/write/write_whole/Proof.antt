@@ -6,7 +6,7 @@ use borrow.Author.Needs.{needs}
 use Rattle.tree_file.specs.TreeLines.{treeText}
 use Rattle.text.proofs.Below.{below-of}
 use Rattle.text.proofs.Said.{said-short, said-put}
-use Rattle.tree_file.proofs.Fits.{text-fits}
+use Rattle.tree_file.proofs.Lengths.{text-fits}
 use Rattle.tree_file.proofs.write.write_whole.Statement.{statement}
 use Rattle.tree_file.proofs.write.write_whole.Tie as tie
 

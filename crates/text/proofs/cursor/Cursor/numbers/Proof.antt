@@ -46,11 +46,11 @@ returns c =
 enum-known-v : tie.Need-enum-known-v Inv-loop μ-loop
 enum-known-v c = search needs
 
-slice-aggregate-hold : tie.Need-slice-aggregate-hold Inv-loop μ-loop
-slice-aggregate-hold c = sym (marks-size (c .before .before .before .before .before .before .before .loop .inv))
+slice-aggregate-store : tie.Need-slice-aggregate-store Inv-loop μ-loop
+slice-aggregate-store c = sym (marks-size (c .before .before .before .before .before .before .before .loop .inv))
 
-hold-requires : tie.Need-hold-requires Inv-loop μ-loop
-hold-requires c κs = tt
+store-requires : tie.Need-store-requires Inv-loop μ-loop
+store-requires c κs = tt
 
 add-i : tie.Need-add-i Inv-loop μ-loop
 add-i c = omega arith
@@ -65,7 +65,7 @@ loop-again c =
     (behind-value _ _ _
     (sym (c .before .before .before .before .before .before .number-behind .ensures) ∙
     c .before .before .before .before .v .given .1))
-    (c .before .hold .ensures)
+    (c .before .store .ensures)
 
 returns-2 : tie.Need-returns-2 Inv-loop μ-loop
 unfolding marksAt
@@ -85,8 +85,8 @@ numbers-spec =
     no-fields-requires
     returns
     enum-known-v
-    slice-aggregate-hold
-    hold-requires
+    slice-aggregate-store
+    store-requires
     add-i
     loop-less
     loop-again

@@ -9,9 +9,10 @@ use Rattle.trees.specs.Words.{leafMark, nodeCount, fieldOf, countOf}
 use Rattle.text.specs.Words.{treeWord, cutWord, leafWord, endWord, oneTab, threeTabs, fourTabs}
 use Rattle.text.specs.Line.{EachUnder}
 use Rattle.text.specs.Text.{unlines}
+use Rattle.text.specs.EndLines.{endLine}
 use Rattle.text.proofs.Sizes.{line-size}
 use Rattle.text.proofs.Texts.{unlines-more}
-use Rattle.tree_file.specs.TreeLines.{cutNumbers, leafNumbers, leafMarks, nodeLine, nodeLines, headLine, endLine}
+use Rattle.tree_file.specs.TreeLines.{cutNumbers, leafNumbers, leafMarks, nodeLine, nodeLines, firstLine}
 use Rattle.tree_file.specs.TreeLines.{treeText, Spelling}
 use Rattle.tree_file.proofs.Growing.{cut-line, leaf-line}
 use Rattle.tree_file.proofs.Spelling.{sizes-of, few-nodes, entries-count, cut-below, leaf-below}
@@ -51,10 +52,10 @@ module _ {n : ℕ} {ws es : List ℕ} (g : Spelling n ws es) (b : EachUnder (2 ^
   unfolding treeText unlines
   text-fits =
       let m = nodeCount ws in
-      let head =
+      let first =
       line-size treeWord threeTabs (n ∷ m ∷ length es ∷ [])
       (omega (arith, g .few), (omega (arith, few-nodes g), (omega (arith, sizes-of g .short-pool), tt))) in
       let end = line-size endWord oneTab ((m + 1) ∷ []) (omega (arith, few-nodes g), tt) in
       let nodes = nodes-size m (omega arith) in
-      rw (unlines-more (headLine n m (length es) ∷ nodeLines ws es m) (endLine m))
-      (simp length-append (omega (arith, head, end, nodes, few-nodes g)))
+      rw (unlines-more (firstLine n m (length es) ∷ nodeLines ws es m) (endLine (m + 1)))
+      (simp length-append (omega (arith, first, end, nodes, few-nodes g)))

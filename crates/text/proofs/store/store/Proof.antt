@@ -1,9 +1,9 @@
--- `tree_file::words::store` meets its contract: a word past the end is not stored. Assumes nothing.
+-- `text::store::store` meets its contract: past the last place nothing is stored. Assumes nothing.
 use mathlib.Core.Path.{sym}
 use lib.Seq.{set-out}
 use borrow.Author.Needs.{needs}
-use Rattle.tree_file.proofs.words.store.Statement.{statement}
-use Rattle.tree_file.proofs.words.store.Tie as tie
+use Rattle.text.proofs.store.store.Statement.{statement}
+use Rattle.text.proofs.store.store.Tie as tie
 
 mul-words : tie.Need-mul-words
 mul-words c = search needs

@@ -1,6 +1,6 @@
 -- Within the nodes: what the lines that were read say of the words and entries so far.
---   Mid n m p i ws es t    the bytes t are the first line and the lines of the first i nodes of these words and
---                          entries, which are spelt so far
+--   NodesSoFar n m p i ws es t    the bytes t are the first line and the lines of the first i nodes of these words and
+--                                 entries, which are spelt so far
 use Prim.Native.Nat.{ℕ, _+_, _*_, _≤_, _<_, _^_}
 use native.Mathlib.Omega.{arith}
 use native.Mathlib.Numerals.{add-one}
@@ -15,13 +15,12 @@ use Rattle.rules.specs.Words.{mostRules}
 use Rattle.trees.specs.Words.{nodeWords, mostNodes, mostPool}
 use Rattle.trees.specs.Spelt.{leafCount, countsBelow}
 use Rattle.trees.proofs.LeafSpelling.{counts-step}
-use Rattle.text.specs.Words.{newline}
-use Rattle.text.specs.Line.{EachUnder}
+use Rattle.text.specs.Line.{ended, EachUnder}
 use Rattle.text.specs.Text.{unlines}
 use Rattle.text.proofs.Below.{below-append}
 use Rattle.text.proofs.Texts.{unlines-more}
-use Rattle.tree_file.specs.TreeText.{headTest}
-use Rattle.tree_file.specs.TreeLines.{headLine, nodeLine, nodeLines}
+use Rattle.tree_file.specs.TreeText.{countsFit}
+use Rattle.tree_file.specs.TreeLines.{firstLine, nodeLine, nodeLines}
 use Rattle.tree_file.proofs.Growing.{SpeltAt, counts-kept, spelt-kept, lines-kept}
 
 -- ---- the limits
@@ -33,8 +32,8 @@ pub record Few (n m p : ℕ) : Type 0 where
   pub pool : p ≤ mostPool
 
 -- counts that pass obey the limits
-pub few-of : (n m p : ℕ) → headTest n m p ≡ true → Few n m p
-unfolding headTest
+pub few-of : (n m p : ℕ) → countsFit n m p ≡ true → Few n m p
+unfolding countsFit
 few-of n m p e =
     let t = both _ _ e in
     let u = both _ _ (t .0) in
@@ -49,15 +48,15 @@ few-of n m p e =
 -- ---- one node more
 
 -- the lines of the first i nodes, and the next
-pub lines-step :
+pub lines-more :
     (ws es : List ℕ) (i : ℕ) → nodeLines ws es (i + 1) ≡ nodeLines ws es i ++ (nodeLine ws es i ∷ [])
 unfolding nodeLines
-lines-step ws es i = rw add-one
+lines-more ws es i = rw add-one
 
-pub record Mid (n m p i : ℕ) (ws es t : List ℕ) : Type 0 where
-  pub text : t ≡ unlines (headLine n m p ∷ nodeLines ws es i)
+pub record NodesSoFar (n m p i : ℕ) (ws es t : List ℕ) : Type 0 where
+  pub text : t ≡ unlines (firstLine n m p ∷ nodeLines ws es i)
   pub size : length ws ≡ i * nodeWords
-  pub limits : headTest n m p ≡ true
+  pub limits : countsFit n m p ≡ true
   pub most : i ≤ m
   pub room : length es ≤ p
   pub below : EachUnder (2 ^ 32) ws
@@ -65,7 +64,7 @@ pub record Mid (n m p i : ℕ) (ws es t : List ℕ) : Type 0 where
   pub total : countsBelow ws i ≡ length es
 
 -- a node with its words, its entries and its line
-pub record Node (n m p i : ℕ) (ws es xs ys l : List ℕ) : Type 0 where
+pub record NodeAdded (n m p i : ℕ) (ws es xs ys l : List ℕ) : Type 0 where
   pub size : length xs ≡ nodeWords
   pub line : l ≡ nodeLine (ws ++ xs) (es ++ ys) i
   pub spelt : SpeltAt n m (ws ++ xs) (es ++ ys) i
@@ -73,17 +72,17 @@ pub record Node (n m p i : ℕ) (ws es xs ys l : List ℕ) : Type 0 where
   pub below : EachUnder (2 ^ 32) xs
   pub room : length es + length ys ≤ p
 
-module _ {n m p i : ℕ} {ws es xs ys t l : List ℕ} (w : Mid n m p i ws es t) (h : i < m)
-    (x : Node n m p i ws es xs ys l) where
+module _ {n m p i : ℕ} {ws es xs ys t l : List ℕ} (w : NodesSoFar n m p i ws es t) (h : i < m)
+    (x : NodeAdded n m p i ws es xs ys l) where
   -- the line of this node follows those before it
-  text-more : t ++ (l ++ (newline ∷ [])) ≡ unlines (headLine n m p ∷ nodeLines (ws ++ xs) (es ++ ys) (i + 1))
+  text-more : t ++ ended l ≡ unlines (firstLine n m p ∷ nodeLines (ws ++ xs) (es ++ ys) (i + 1))
   text-more =
       let kept = lines-kept ws es xs ys i (omega (arith, w .size)) (w .each) in
       let grown : nodeLines ws es i ++ (l ∷ []) ≡ nodeLines (ws ++ xs) (es ++ ys) (i + 1) =
-      rw (lines-step (ws ++ xs) (es ++ ys) i, kept, ← x .line) in
-      ap (λ (u : List ℕ). u ++ (l ++ (newline ∷ []))) (w .text) ∙
-      sym (unlines-more (headLine n m p ∷ nodeLines ws es i) l) ∙
-      ap (λ (ls : List (List ℕ)). unlines (headLine n m p ∷ ls)) grown
+      rw (lines-more (ws ++ xs) (es ++ ys) i, kept, ← x .line) in
+      ap (λ (u : List ℕ). u ++ ended l) (w .text) ∙
+      sym (unlines-more (firstLine n m p ∷ nodeLines ws es i) l) ∙
+      ap (λ (ls : List (List ℕ)). unlines (firstLine n m p ∷ ls)) grown
 
   -- the nodes before it stay spelt, and so is this one
   each-more : (j : ℕ) → j < i + 1 → SpeltAt n m (ws ++ xs) (es ++ ys) j
@@ -92,8 +91,8 @@ module _ {n m p i : ℕ} {ws es xs ys t l : List ℕ} (w : Mid n m p i ws es t) 
       (λ j q. spelt-kept ws es xs ys j (omega (arith, w .size)) (w .each j q)) (x .spelt)
 
   -- with one node more the lines say as much of the words and entries that it adds
-  pub mid-more : Mid n m p (i + 1) (ws ++ xs) (es ++ ys) (t ++ (l ++ (newline ∷ [])))
-  mid-more =
+  pub so-far-more : NodesSoFar n m p (i + 1) (ws ++ xs) (es ++ ys) (t ++ ended l)
+  so-far-more =
       record {
         text = text-more;
         size = length-append ws xs ∙ omega (arith, w .size, x .size);

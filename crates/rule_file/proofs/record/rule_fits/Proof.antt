@@ -1,4 +1,4 @@
--- `rule_file::record::rule_test` meets its contract: the tests are those of `ruleTest`, in its order.
+-- `rule_file::record::rule_fits` meets its contract: the tests are those of `ruleFits`, in its order.
 -- Assumes nothing.
 use Prim.Native.Nat.{ℕ}
 use mathlib.Core.Path.{ap, _∙_}
@@ -7,8 +7,8 @@ use borrow.Author.Needs.{needs}
 use Rattle.facts.proofs.Bools.{held, failed}
 use Rattle.rules.specs.Good.{good}
 use Rattle.rule_file.proofs.Records.{number-fails, source-fails, destination-fails, rule-decides}
-use Rattle.rule_file.proofs.record.rule_test.Statement.{statement}
-use Rattle.rule_file.proofs.record.rule_test.Tie as tie
+use Rattle.rule_file.proofs.record.rule_fits.Statement.{statement}
+use Rattle.rule_file.proofs.record.rule_fits.Tie as tie
 
 array-read-if1 : tie.Need-array-read-if1
 array-read-if1 c = search needs
@@ -72,8 +72,8 @@ returns-4 c =
     rule-decides _ _ (s .before .before .if1 .left) (held (s .before .octets-fit .ensures) (s .if2 .left))
     (held (d .before .octets-fit2 .ensures) (d .if3 .left))
 
-pub rule-test-spec : {M : Type 1} → statement M
-rule-test-spec =
+pub rule-fits-spec : {M : Type 1} → statement M
+rule-fits-spec =
     tie.close
     (tie.spec
     array-read-if1

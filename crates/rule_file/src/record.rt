@@ -79,10 +79,10 @@ pub(crate) fn rule_at(rules: &[u32], i: usize) -> [u32; RULE_WORDS]
     ensures { λ r. ⌜ r ≡ ruleAt (now (rules .entry)) i ⌝ }
 {
     let mut rule = [0u32; RULE_WORDS];
-    let mut j = 0;
-    while j < RULE_WORDS {
-        rule[j] = rules[i * RULE_WORDS + j];
-        j += 1;
+    let mut k = 0;
+    while k < RULE_WORDS {
+        rule[k] = rules[i * RULE_WORDS + k];
+        k += 1;
     }
     rule
 }

@@ -1,15 +1,25 @@
 -- `rule_file::read::rules_read` meets its contract: the first pass decides, then the room; the second pass writes.
 -- Assumes nothing.
 use native.Mathlib.Omega.{arith}
-use mathlib.Core.Path.{refl, subst}
+use mathlib.Core.Path.{_≡_, refl, subst}
 use lib.ListN.{take}
 use denote.Ref.{now}
 use borrow.Author.Needs.{needs}
+use Rattle.rule_file.specs.declared.read.Read.{Read}
 use Rattle.rule_file.specs.RuleText.{rulesIn}
 use Rattle.rule_file.specs.ReadSteps.{PassRead}
 use Rattle.rule_file.proofs.ReadAnswers.{text-refused, room-refused, read-again}
 use Rattle.rule_file.proofs.read.rules_read.Statement.{statement}
 use Rattle.rule_file.proofs.read.rules_read.Tie as tie
+
+-- what the first pass found
+first :
+    (p : tie.After-read-pass) {r : Read} → p .read-pass .result ≡ r →
+    let s = p .before .before .before .before .args in
+    PassRead (rulesIn (now (s .text))) (take 0 (now (s .rules))) (p .read-pass .last .1 .0) r
+first p e =
+    let s = p .before .before .before .before .args in
+    subst (PassRead (rulesIn (now (s .text))) (take 0 (now (s .rules))) _) e (p .read-pass .ensures)
 
 slice-relend-prefix-read-pass : tie.Need-slice-relend-prefix-read-pass
 slice-relend-prefix-read-pass c = search needs
@@ -29,10 +39,7 @@ enum-known-count c = search needs
 mul-needed : tie.Need-mul-needed
 mul-needed c =
     let p = c .before .before .before .before .before in
-    let w = p .before .before .before .before in
-    let Is = PassRead (rulesIn (now (w .args .text))) (take 0 (now (w .args .rules))) _ in
-    let first = subst Is (c .before .count .given .1) (p .read-pass .ensures) in
-    omega (arith, first .few)
+    omega (arith, first p (c .before .count .given .1) .few)
 
 same-length : tie.Need-same-length
 same-length c = search needs
@@ -40,10 +47,8 @@ same-length c = search needs
 returns : tie.Need-returns
 returns c =
     let p = c .before .before .before .before .before .before in
-    let w = p .before .before .before .before in
-    let Is = PassRead (rulesIn (now (w .args .text))) (take 0 (now (w .args .rules))) _ in
-    let first = subst Is (c .before .before .count .given .1) (p .read-pass .ensures) in
-    room-refused _ (p .read-pass .last .1 .0) (p .read-pass .kept .1 .0) first refl (c .if1 .taken)
+    room-refused _ (p .read-pass .last .1 .0) (p .read-pass .kept .1 .0) (first p (c .before .before .count .given .1))
+    refl (c .if1 .taken)
 
 read-pass-requires-2 : tie.Need-read-pass-requires-2
 read-pass-requires-2 c κs = search needs
@@ -54,10 +59,7 @@ same-length-2 c = search needs
 returns-2 : tie.Need-returns-2
 returns-2 c =
     let p = c .before .before .before .before .before in
-    let w = p .before .before .before .before in
-    let Is = PassRead (rulesIn (now (w .args .text))) (take 0 (now (w .args .rules))) _ in
-    text-refused _ (p .read-pass .last .1 .0) (p .read-pass .kept .1 .0)
-    (subst Is (c .before .why .given .1) (p .read-pass .ensures))
+    text-refused _ (p .read-pass .last .1 .0) (p .read-pass .kept .1 .0) (first p (c .before .why .given .1))
 
 same-length-3 : tie.Need-same-length-3
 same-length-3 c = search needs
@@ -67,11 +69,8 @@ returns-3 c =
     let q = c .before .before in
     let m = q .before .before .before .before in
     let p = m .before .before .before .before in
-    let w = p .before .before .before .before in
-    let Is = PassRead (rulesIn (now (w .args .text))) (take 0 (now (w .args .rules))) _ in
-    let first = subst Is (m .count .given .1) (p .read-pass .ensures) in
-    read-again _ (p .read-pass .last .1 .0) (p .read-pass .kept .1 .0) first _ (q .before .before .if1 .left)
-    (q .read-pass2 .ensures)
+    read-again _ (p .read-pass .last .1 .0) (p .read-pass .kept .1 .0) (first p (m .count .given .1)) _
+    (q .before .before .if1 .left) (q .read-pass2 .ensures)
 
 pub rules-read-spec : {M : Type 1} → statement M
 rules-read-spec =

@@ -11,11 +11,11 @@ use Rattle.rule_file.proofs.record.rule_at.Statement.{statement}
 use Rattle.rule_file.proofs.record.rule_at.Tie as tie
 
 abbrev Inv-loop : tie.InvT-loop
-Inv-loop rules i rule₀ j₀ rule j =
-    (rule ≡ sets (replicate ruleWords 0) 0 (take j (ruleAt rules i))) × (j ≤ ruleWords)
+Inv-loop rules i rule₀ k₀ rule k =
+    (rule ≡ sets (replicate ruleWords 0) 0 (take k (ruleAt rules i))) × (k ≤ ruleWords)
 
 abbrev μ-loop : tie.MeasureT-loop
-μ-loop rules i rule₀ j₀ rule j = ruleWords - j
+μ-loop rules i rule₀ k₀ rule k = ruleWords - k
 
 loop-holds : tie.Need-loop-holds Inv-loop μ-loop
 loop-holds c = (refl, omega arith)
@@ -38,8 +38,8 @@ mul-rule-3 c = omega arith
 array-write-rule : tie.Need-array-write-rule Inv-loop μ-loop
 array-write-rule c = omega arith
 
-add-j : tie.Need-add-j Inv-loop μ-loop
-add-j c = omega arith
+add-k : tie.Need-add-k Inv-loop μ-loop
+add-k c = omega arith
 
 loop-less : tie.Need-loop-less Inv-loop μ-loop
 loop-less c = omega arith
@@ -65,7 +65,7 @@ rule-at-spec =
     shared-slice-read-rule
     mul-rule-3
     array-write-rule
-    add-j
+    add-k
     loop-less
     loop-again
     returns)

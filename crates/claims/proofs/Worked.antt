@@ -30,8 +30,6 @@ unfolding allBelow lowest upFrom keep has rises allUnder refuseUnless roomVerdic
     nodePart partOf rootPart wordsVerdict checkVerdict
 worked = (
   (
-    refl,
-    refl,
     record { answers = refl; leaves = refl },
     record { answers = refl },
     record { answers = refl; leaves = refl },
@@ -39,8 +37,6 @@ worked = (
   ),
   (
     (
-      refl,
-      refl,
       record { answers = refl; leaves = refl },
       record { answers = refl },
       record { answers = refl; leaves = refl },
@@ -48,8 +44,6 @@ worked = (
     ),
     (
       (
-        refl,
-        refl,
         record { answers = refl; leaves = refl },
         record { answers = refl },
         record { answers = refl; leaves = refl },
@@ -57,8 +51,6 @@ worked = (
       ),
       (
         (
-          refl,
-          refl,
           record { answers = refl; leaves = refl },
           record { answers = refl },
           record { answers = refl; leaves = refl },
@@ -66,8 +58,6 @@ worked = (
         ),
         (
           (
-            refl,
-            refl,
             record { answers = refl; leaves = refl },
             record { answers = refl },
             record { answers = refl; leaves = refl },
@@ -75,8 +65,6 @@ worked = (
           ),
           (
             (
-              refl,
-              refl,
               record { answers = refl; leaves = refl },
               record { answers = refl },
               record { answers = refl; leaves = refl },
@@ -84,8 +72,6 @@ worked = (
             ),
             (
               (
-                refl,
-                refl,
                 record { answers = refl; leaves = refl },
                 record { answers = refl },
                 record { answers = refl; leaves = refl },

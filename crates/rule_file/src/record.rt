@@ -1,10 +1,10 @@
 // One rule as the numbers of its line, and as the ten words of a list.
+use lent::store;
 use refusals::Verdict;
 use rules::check::list_verdict;
 use rules::words::RULE_WORDS;
 use text::address::address_of;
 use text::address::octets_fit;
-use text::store::store;
 use text::words::MOST_FIELDS;
 ghost use Prim.Native.Nat.{_+_, _*_, _≤_, _<_};
 ghost use mathlib.Core.Path.{_≡_};

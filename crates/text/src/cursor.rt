@@ -2,9 +2,9 @@
 // what was read, or the refusal of the line it stands in.
 use crate::place::following;
 use crate::place::within;
-use crate::store::store;
 use crate::words::MOST_FIELDS;
 use crate::words::NEWLINE;
+use lent::store;
 use refusals::Refusal;
 ghost use Prim.Native.Nat.{_≤_};
 ghost use mathlib.Core.Path.{_≡_};

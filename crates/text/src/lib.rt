@@ -6,14 +6,12 @@
 //   put::put_bytes, put_behind, put_wide, put      its parts: a word; a number behind a separator; one byte
 //   put::Written                                   the answer of a call that counts some bytes and then puts them
 //   end::end_line, put_end                         the end line of a file, read and written
-//   store::store                                   one word of lent memory, where there is room for it
 //   address::octets_fit, address_of                the address of four octets
 //   words                                          the fixed words and separators
-// Each takes any bytes and any places. Rests on facts and refusals.
+// Each takes any bytes and any places. Rests on facts, lent and refusals.
 pub mod address;
 pub mod cursor;
 pub mod end;
 pub mod place;
 pub mod put;
-pub mod store;
 pub mod words;

@@ -3,7 +3,7 @@
 //   write::tree_write    the file of a tree, into lent bytes: 1, 5, 6, 7, 4
 //   read::tree_read      the tree of a file, into lent node words and a lent pool: 9, 10, 4
 // A file that reads well is the one that is written of what it says, and what is written reads back. Rests on facts,
-// refusals, fields, rules, trees and text.
+// lent, refusals, fields, rules, trees and text.
 pub mod node;
 pub mod read;
 pub mod words;

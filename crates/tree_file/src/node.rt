@@ -1,14 +1,14 @@
 // One node's line: a cut's or a leaf's.
 use crate::read::Counts;
 use crate::words::store_node;
-use crate::words::wide;
+use lent::store;
+use lent::wide;
 use refusals::Refusal;
 use text::cursor::Cursor;
 use text::cursor::LineEnd;
 use text::cursor::Number;
 use text::cursor::Step;
 use text::cursor::wrong;
-use text::store::store;
 use text::words::CUT;
 use text::words::FOUR_TABS;
 use text::words::LEAF;

@@ -1,7 +1,7 @@
 // Reading a tree file, line by line.
 use crate::node::Node;
 use crate::node::node_line;
-use crate::words::wide;
+use lent::wide;
 use refusals::Refusal;
 use rules::words::MOST_RULES;
 use text::cursor::Cursor;

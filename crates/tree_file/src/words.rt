@@ -1,5 +1,5 @@
-// Words of 32 bits: as a place or a count, and those of a node.
-use text::store::store;
+// The words of a node, stored as far as there is room.
+use lent::store;
 use trees::words::CHILD;
 use trees::words::NODE_WORDS;
 use trees::words::VALUE;
@@ -18,11 +18,4 @@ pub(crate) fn store_node(nodes: &mut [u32], i: usize, first: u32, second: u32, t
     store(nodes, at, first);
     store(nodes, at + VALUE, second);
     store(nodes, at + CHILD, third);
-}
-
-// A word as a place or a count.
-pub(crate) fn wide(word: u32) -> usize
-    ensures { λ r. ⌜ r ≡ word ⌝ }
-{
-    word as usize
 }

@@ -1,5 +1,5 @@
 // Writing a tree file, line by line.
-use crate::words::wide;
+use lent::wide;
 use refusals::Refusal;
 use refusals::Verdict;
 use rules::words::MOST_RULES;

@@ -3,7 +3,7 @@ use Prim.Native.Nat.{ℕ}
 use mathlib.Core.Path.{_≡_}
 use mathlib.Core.List.{List}
 use Rattle.rules.proofs.Meaning.{matches-iff-inside}
-use Rattle.rules.proofs.Listing.{listed-iff-matches, matching-rises, head-is-lowest}
+use Rattle.rules.proofs.Listing.{listed-iff-matches, matching-rises, first-is-lowest}
 use Rattle.tree_check.specs.Serves.{Serves}
 use Rattle.tree_check.proofs.Accepts.{accepts-iff-serves}
 use Rattle.tree_check.proofs.Searches.{refuses-none, same-list, same-verdict, same-words, same-first}
@@ -20,7 +20,7 @@ matching-claim =
     record {
       listed = listed-iff-matches;
       rising = matching-rises;
-      lowest = λ rs h r rest e q l. head-is-lowest rs h r rest e .none-before q l;
+      lowest = λ rs h r rest e q l. first-is-lowest rs h r rest e .none-before q l;
       box = λ rs r g h. matches-iff-inside rs r g h;
     }
 

@@ -12,7 +12,9 @@ tree-check-claim =
     record {
       accepts = λ rs ns es. (
         λ t. accepts-iff-serves rs ns es .0 (lack-decides (accepted-means rs ns es (t .2))),
-        λ s. let t = accepted rs ns es (accepts-iff-serves rs ns es .1 s) in (t .0, t .1, accepted-says rs ns es (t .2)),
+        λ s.
+            let t = accepted rs ns es (accepts-iff-serves rs ns es .1 s) in
+            (t .0, t .1, accepted-says rs ns es (t .2)),
       );
       eight = λ rs ns es. (
         λ t. eight-iff rs ns es .0 (t .0, t .1, refused-iff rs ns es .0 (t .2)),

@@ -77,7 +77,13 @@ worked = (
                 record { answers = refl; leaves = refl },
                 record { answers = refl },
               ),
-              (record { answers = refl }, (record { answers = refl }, (record { answers = refl }, (record { answers = refl }, tt)))),
+              (
+                record { answers = refl },
+                (
+                  record { answers = refl },
+                  (record { answers = refl }, (record { answers = refl }, tt)),
+                ),
+              ),
             ),
           ),
         ),

@@ -48,7 +48,8 @@ pub data Row : Type 0 where
 abbrev pub AllHold : List Row → Type 0
 AllHold [] = Unit {0}
 AllHold (search h ms n c f a ∷ rows) =
-    (LineAllSearched rules h room (line.Found (length ms)) (written ms room) × LineFirstSearched rules h (first.Rule f) ×
+    (LineAllSearched rules h room (line.Found (length ms)) (written ms room) ×
+    LineFirstSearched rules h (first.Rule f) ×
     TreeAllSearched rules tree pool h room (tree-all.Found (length ms) n c) (written ms room) ×
     TreeFirstSearched rules tree pool h (tree-first.Rule f n a)) × AllHold rows
 AllHold (check rs ns es r ∷ rows) = TreeChecked rs ns es r × AllHold rows

@@ -93,7 +93,8 @@ module _ {p : List ℕ} {k : ℕ} {g : Gathering} (q : Holds p k g) where
 -- what is replied to it at the end of input
 pub holds-last : (p : List ℕ) {k : ℕ} {g : Gathering} → Holds p k g → lastReply g ≡ onLast k p
 holds-last [] q = sym (last-none _ (q .few (omega arith) .0))
-holds-last (b ∷ bs) {k} {g} q = sym (last-part g (λ e. go e (within-or-over (length (b ∷ bs)) mostBytes))) ∙ rw (q .lines)
+holds-last (b ∷ bs) {k} {g} q =
+    sym (last-part g (λ e. go e (within-or-over (length (b ∷ bs)) mostBytes))) ∙ rw (q .lines)
   where
     go : g .count ≡ 0 → WithinOrOver (length (b ∷ bs)) mostBytes → ⊥
     go e (atMost h) = omega (arith, q .few h .0)

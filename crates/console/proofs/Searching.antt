@@ -11,7 +11,8 @@ use Rattle.refusals.specs.declared.Refusal.{Refusal}
 use Rattle.refusals.specs.declared.Verdict.{Verdict}
 use Rattle.refusals.specs.declared.Verdict.the-variants as verdict
 use Rattle.refusals.specs.Paper.{success}
-use Rattle.refusals.proofs.Promises.{refused-by, fine-by, said-by, writes-refused, writes-fine, left-found, left-written}
+use Rattle.refusals.proofs.Promises.{refused-by, fine-by, said-by, writes-refused}
+use Rattle.refusals.proofs.Promises.{writes-fine, left-found, left-written}
 use Rattle.rules.specs.declared.line.Listed.{Listed}
 use Rattle.rules.specs.declared.line.Listed.the-variants as listed
 use Rattle.rules.specs.LineAll.{Lists, LineAllSearched}

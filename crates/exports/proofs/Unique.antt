@@ -1,14 +1,15 @@
--- The promise of each C function allows one answer and one state of the lent outputs, since that of its Rattle call does.
+-- The promise of each C function allows one answer and one state of the lent outputs, since that of its call does.
 use Prim.Native.Nat.{ℕ}
 use mathlib.Core.Path.{_≡_, sym, ap, _∙_}
 use mathlib.Core.List.{List}
 use Rattle.refusals.specs.Paper.{Paper}
 use Rattle.exports.specs.Answers.{inWords, InWords}
 
--- two answers that a promise allows are equal, and so are the two states v and w of the lent outputs, be there none, one
--- or two. The promises of all ten calls (specs/Calls.antt) are instances of `InWords`
+-- two answers that a promise allows are equal, and so are the two states v and w of the lent outputs, whether there are
+-- none, one or two. The promises of all ten calls (specs/Calls.antt) are instances of `InWords`
 pub in-words-unique :
-    {R W : Type 0} {words : List ℕ → List ℕ} {paper : R → Paper} {P : R → W → Type 0} {v w : W} {answer other : List ℕ} →
+    {R W : Type 0} {words : List ℕ → List ℕ} {paper : R → Paper} {P : R → W → Type 0} {v w : W}
+    {answer other : List ℕ} →
     ((r s : R) (x y : W) → P r x → P s y → (r ≡ s) × (x ≡ y)) → InWords words paper (λ r. P r v) answer →
     InWords words paper (λ r. P r w) other → (answer ≡ other) × (v ≡ w)
 in-words-unique {R} {words = words} {paper = paper} one p q =

@@ -21,9 +21,9 @@ has-cons x xs y e = go (eqb x y) refl
     go false t = inr (rw t at e)
 
 -- the head stands in the list
-pub has-head : (x : ℕ) (xs : List ℕ) (y : ℕ) → x ≡ y → has (x ∷ xs) y ≡ true
+pub has-first : (x : ℕ) (xs : List ℕ) (y : ℕ) → x ≡ y → has (x ∷ xs) y ≡ true
 unfolding has
-has-head x xs y q = rw (eq-eqb x y q)
+has-first x xs y q = rw (eq-eqb x y q)
 
 -- what stands in the tail stands in the list
 pub has-tail : (x : ℕ) (xs : List ℕ) (y : ℕ) → has xs y ≡ true → has (x ∷ xs) y ≡ true
@@ -46,7 +46,7 @@ has-of-kept p (x ∷ xs) y e = go (p x) refl (λ r. has-of-kept p xs y r)
     go true t r = two (has-cons x (keep p xs) y (rw (t, keep) at e))
       where
         two : (x ≡ y) ⊎ (has (keep p xs) y ≡ true) → (has (x ∷ xs) y ≡ true) × (p y ≡ true)
-        two (inl q) = (has-head x xs y q, rw (← q) t)
+        two (inl q) = (has-first x xs y q, rw (← q) t)
         two (inr q) = (has-tail x xs y (r q .0), r q .1)
     go false t r = let q : has (keep p xs) y ≡ true = rw (t, keep) at e in (has-tail x xs y (r q .0), r q .1)
 
@@ -59,7 +59,7 @@ kept-of-has p (x ∷ xs) y e c = go (p x) refl (λ r. kept-of-has p xs y r c) (h
     go :
         (b : Bool) → p x ≡ b → (has xs y ≡ true → has (keep p xs) y ≡ true) → (x ≡ y) ⊎ (has xs y ≡ true) →
         has (keep p (x ∷ xs)) y ≡ true
-    go true t r (inl q) = rw (t, keep) (has-head x (keep p xs) y q)
+    go true t r (inl q) = rw (t, keep) (has-first x (keep p xs) y q)
     go true t r (inr q) = rw (t, keep) (has-tail x (keep p xs) y (r q))
     go false t r (inl q) = clash c (rw (← q) t)
     go false t r (inr q) = rw (t, keep) (r q)
@@ -75,7 +75,8 @@ has-of-up zero i y e = absurd (false≢true e)
 has-of-up (suc m) i y e = go (has-cons i (upFrom (i + 1) m) y e) (λ r. has-of-up m (i + 1) y r)
   where
     go :
-        (i ≡ y) ⊎ (has (upFrom (i + 1) m) y ≡ true) → (has (upFrom (i + 1) m) y ≡ true → (i + 1 ≤ y) × (y < i + 1 + m)) →
+        (i ≡ y) ⊎ (has (upFrom (i + 1) m) y ≡ true) →
+        (has (upFrom (i + 1) m) y ≡ true → (i + 1 ≤ y) × (y < i + 1 + m)) →
         (i ≤ y) × (y < i + suc m)
     go (inl q) r = (omega arith, omega arith)
     go (inr q) r = let z = r q in (omega arith, omega arith)
@@ -87,7 +88,7 @@ up-has zero i y l u = absurd (omega arith)
 up-has (suc m) i y l u = go (order i y) (λ k. up-has m (i + 1) y k (omega arith))
   where
     go : Order i y → (i + 1 ≤ y → has (upFrom (i + 1) m) y ≡ true) → has (upFrom i (suc m)) y ≡ true
-    go (same q) r = has-head i (upFrom (i + 1) m) y q
+    go (same q) r = has-first i (upFrom (i + 1) m) y q
     go (below k) r = has-tail i (upFrom (i + 1) m) y (r (omega arith))
     go (above k) r = absurd (omega arith)
 

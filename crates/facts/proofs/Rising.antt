@@ -1,6 +1,5 @@
 -- Rising lists: numbers counted up rise, and so does what is kept of a rising list; nothing in one is below its first
--- number, and
--- two with the same members are one.
+-- number, and two with the same members are one.
 use Prim.Native.Nat.{ℕ, zero, suc, _+_, _≤_, _<_}
 use native.Mathlib.Omega.{arith}
 use mathlib.Core.Bool.{Bool, true, false, false≢true}
@@ -12,12 +11,12 @@ use borrow.Author.Tests.{leb-true, le-leb}
 use Rattle.facts.specs.Lists.{upFrom, keep, has, rises}
 use Rattle.facts.proofs.Bools.{both, join}
 use Rattle.facts.proofs.Cases.{below, same}
-use Rattle.facts.proofs.Members.{has-cons, has-head, has-tail, kept-iff, up-iff}
+use Rattle.facts.proofs.Members.{has-cons, has-first, has-tail, kept-iff, up-iff}
 
 -- a rising list's head is at least its bound, and its tail rises past the head
-pub rises-head : (a x : ℕ) (xs : List ℕ) → rises a (x ∷ xs) ≡ true → (a ≤ x) × (rises (x + 1) xs ≡ true)
+pub rises-first : (a x : ℕ) (xs : List ℕ) → rises a (x ∷ xs) ≡ true → (a ≤ x) × (rises (x + 1) xs ≡ true)
 unfolding rises
-rises-head a x xs e = let t = both (leb a x) (rises (x + 1) xs) e in (leb-true a x (t .0), t .1)
+rises-first a x xs e = let t = both (leb a x) (rises (x + 1) xs) e in (leb-true a x (t .0), t .1)
 
 -- a head at least the bound, before a tail that rises past it, makes a rising list
 pub rises-cons : (a x : ℕ) (xs : List ℕ) → a ≤ x → rises (x + 1) xs ≡ true → rises a (x ∷ xs) ≡ true
@@ -28,17 +27,17 @@ rises-cons a x xs l e = join (le-leb a x l) e
 pub rises-lower : (a b : ℕ) (l : List ℕ) → a ≤ b → rises b l ≡ true → rises a l ≡ true
 unfolding rises
 rises-lower a b [] h e = refl
-rises-lower a b (x ∷ xs) h e = let t = rises-head b x xs e in rises-cons a x xs (omega arith) (t .1)
+rises-lower a b (x ∷ xs) h e = let t = rises-first b x xs e in rises-cons a x xs (omega arith) (t .1)
 
 -- what is kept of a rising list rises
 pub rises-kept : (p : ℕ → Bool) (a : ℕ) (l : List ℕ) → rises a l ≡ true → rises a (keep p l) ≡ true
 unfolding keep
 rises-kept p a [] e = e
-rises-kept p a (x ∷ xs) e = go (p x) refl (rises-kept p (x + 1) xs (rises-head a x xs e .1))
+rises-kept p a (x ∷ xs) e = go (p x) refl (rises-kept p (x + 1) xs (rises-first a x xs e .1))
   where
     go : (b : Bool) → p x ≡ b → rises (x + 1) (keep p xs) ≡ true → rises a (keep p (x ∷ xs)) ≡ true
-    go true t r = rw (t, keep) (rises-cons a x (keep p xs) (rises-head a x xs e .0) r)
-    go false t r = rw (t, keep) (rises-lower a (x + 1) (keep p xs) (omega (arith, rises-head a x xs e .0)) r)
+    go true t r = rw (t, keep) (rises-cons a x (keep p xs) (rises-first a x xs e .0) r)
+    go false t r = rw (t, keep) (rises-lower a (x + 1) (keep p xs) (omega (arith, rises-first a x xs e .0)) r)
 
 -- numbers counted up rise
 pub rises-up : (m i : ℕ) → rises i (upFrom i m) ≡ true
@@ -50,11 +49,11 @@ rises-up (suc m) i = join (le-leb i i (omega arith)) (rises-up m (i + 1))
 pub rises-low : (a : ℕ) (l : List ℕ) (y : ℕ) → rises a l ≡ true → has l y ≡ true → a ≤ y
 unfolding has
 rises-low a [] y e h = absurd (false≢true h)
-rises-low a (x ∷ xs) y e h = go (has-cons x xs y h) (λ r. rises-low (x + 1) xs y (rises-head a x xs e .1) r)
+rises-low a (x ∷ xs) y e h = go (has-cons x xs y h) (λ r. rises-low (x + 1) xs y (rises-first a x xs e .1) r)
   where
     go : (x ≡ y) ⊎ (has xs y ≡ true) → (has xs y ≡ true → x + 1 ≤ y) → a ≤ y
-    go (inl q) r = let t = rises-head a x xs e in omega arith
-    go (inr q) r = let t = rises-head a x xs e in let s = r q in omega arith
+    go (inl q) r = let t = rises-first a x xs e in omega arith
+    go (inr q) r = let t = rises-first a x xs e in let s = r q in omega arith
 
 -- ---- the same members
 
@@ -80,15 +79,15 @@ tail-within x xs ys r f z k =
 head-at-most :
     (a x y : ℕ) (xs ys : List ℕ) → rises a (y ∷ ys) ≡ true → Within (x ∷ xs) (y ∷ ys) → y ≤ x
 head-at-most a x y xs ys r f =
-    rises-low y (y ∷ ys) x (rises-cons y y ys (omega arith) (rises-head a y ys r .1)) (f x (has-head x xs x refl))
+    rises-low y (y ∷ ys) x (rises-cons y y ys (omega arith) (rises-first a y ys r .1)) (f x (has-first x xs x refl))
 
 -- two rising lists with the same members are equal
 pub rising-ext :
     (a : ℕ) (l m : List ℕ) → rises a l ≡ true → rises a m ≡ true → Within l m → Within m l → l ≡ m
 unfolding has
 rising-ext a [] [] p q f g = refl
-rising-ext a [] (y ∷ ys) p q f g = absurd (false≢true (g y (has-head y ys y refl)))
-rising-ext a (x ∷ xs) [] p q f g = absurd (false≢true (f x (has-head x xs x refl)))
+rising-ext a [] (y ∷ ys) p q f g = absurd (false≢true (g y (has-first y ys y refl)))
+rising-ext a (x ∷ xs) [] p q f g = absurd (false≢true (f x (has-first x xs x refl)))
 rising-ext a (x ∷ xs) (y ∷ ys) p q f g = go heads (λ r s t u. rising-ext (x + 1) xs ys r s t u)
   where
     heads : x ≡ y
@@ -97,11 +96,11 @@ rising-ext a (x ∷ xs) (y ∷ ys) p q f g = go heads (λ r s t u. rising-ext (x
     go :
         x ≡ y → (rises (x + 1) xs ≡ true → rises (x + 1) ys ≡ true → Within xs ys → Within ys xs → xs ≡ ys) →
         x ∷ xs ≡ y ∷ ys
-    go e r = rest (r (rises-head a x xs p .1) later (tail-within x xs ys (rises-head a x xs p .1) (rw (← e) at f))
+    go e r = rest (r (rises-first a x xs p .1) later (tail-within x xs ys (rises-first a x xs p .1) (rw (← e) at f))
         (tail-within x ys xs later (rw (← e) at g)))
       where
         later : rises (x + 1) ys ≡ true
-        later = rw e (rises-head a y ys q .1)
+        later = rw e (rises-first a y ys q .1)
 
         rest : xs ≡ ys → x ∷ xs ≡ y ∷ ys
         rest t = cc

@@ -12,7 +12,7 @@ use lib.Dec.{ltb}
 use borrow.Author.Tests.{ltb-true, lt-ltb, le-ltb}
 use Rattle.facts.specs.Lists.{has, allUnder}
 use Rattle.facts.proofs.Bools.{both, join}
-use Rattle.facts.proofs.Members.{has-cons, has-head, has-tail}
+use Rattle.facts.proofs.Members.{has-cons, has-first, has-tail}
 
 pub record UnderYet (n : ℕ) (all rest : List ℕ) : Type 0 where
   pub left : allUnder n all ≡ allUnder n rest
@@ -73,7 +73,7 @@ under-of-each : (n : ℕ) (l : List ℕ) → ((y : ℕ) → has l y ≡ true →
 unfolding allUnder
 under-of-each n [] f = refl
 under-of-each n (x ∷ xs) f =
-    cons-under n x xs (f x (has-head x xs x refl)) (under-of-each n xs (λ y h. f y (has-tail x xs y h)))
+    cons-under n x xs (f x (has-first x xs x refl)) (under-of-each n xs (λ y h. f y (has-tail x xs y h)))
 
 -- all of a list are below n exactly where the number at each place is
 pub all-under-iff-at : (n : ℕ) (l : List ℕ) → (allUnder n l ≡ true) ↔ ((j : ℕ) → j < length l → getD l j 0 < n)

@@ -6,8 +6,8 @@
 --   rises a l      l rises strictly, and its first number is at least a; true of the empty list
 --   allUnder n l   every number of l is below n; true of the empty list
 --   written new found    lent words that held found, once new was written from their front on: the rest is as found
---   Kept p l before n after    what p keeps of l is stored from the front of lent words on, as far as there is room, and
---                  the rest is as found; n is how many numbers that is
+--   Kept p l before n after    what p keeps of l is stored from the front of lent words on, as far as there is room,
+--                  and the rest is as found; n is how many numbers that is
 use Prim.Native.Nat.{ℕ, zero, suc, _+_}
 use mathlib.Core.Bool.{Bool, true, false, cond, _&&_, _||_}
 use mathlib.Core.Path.{_≡_}

@@ -12,7 +12,8 @@ use Rattle.refusals.specs.declared.Refusal.the-variants.{FileNotRead}
 use Rattle.refusals.specs.declared.Verdict.the-variants as verdict
 use Rattle.refusals.specs.Paper.{success}
 use Rattle.refusals.proofs.Order.{refused-not-fine, room-fine-iff}
-use Rattle.refusals.proofs.Promises.{refused-by, fine-by, said-by, writes-refused, writes-fine, left-found, left-written}
+use Rattle.refusals.proofs.Promises.{refused-by, fine-by, said-by, writes-refused}
+use Rattle.refusals.proofs.Promises.{writes-fine, left-found, left-written}
 use Rattle.rules.specs.Words.{ruleWords, ruleCount}
 use Rattle.rules.specs.Good.{listVerdict}
 use Rattle.rules.proofs.Lists.{fine-iff-good}

@@ -84,7 +84,8 @@ accepted-iff rs f = (λ e. to (treeOf f) refl e, of)
 
 -- words for the most rules are room for any list, so that the file alone decides
 pub list-room :
-    (f : Option (List ℕ)) {a : ℕ} → mostRules * ruleWords ≤ a → rule-file.readVerdict (listIn f) a ≡ ownVerdict (listIn f)
+    (f : Option (List ℕ)) {a : ℕ} → mostRules * ruleWords ≤ a →
+    rule-file.readVerdict (listIn f) a ≡ ownVerdict (listIn f)
 unfolding listIn
 list-room none h = refl
 list-room (some s) {a} h = go (rulesIn s) refl

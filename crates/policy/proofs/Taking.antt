@@ -11,7 +11,8 @@ use Rattle.refusals.specs.declared.Refusal.the-variants.{FileNotRead}
 use Rattle.refusals.specs.declared.Verdict.the-variants as verdict
 use Rattle.refusals.specs.Paper.{success}
 use Rattle.refusals.proofs.Order.{refused-not-fine, fine-iff-holds, then-fine-iff, room-fine-iff}
-use Rattle.refusals.proofs.Promises.{refused-by, fine-by, said-by, writes-refused, writes-fine, left-found, left-written}
+use Rattle.refusals.proofs.Promises.{refused-by, fine-by, said-by, writes-refused}
+use Rattle.refusals.proofs.Promises.{writes-fine, left-found, left-written}
 use Rattle.trees.specs.Words.{nodeWords, nodeCount}
 use Rattle.trees.proofs.Sizes.{sizes-fine-iff}
 use Rattle.text.specs.Text.{Reading, good, refused}

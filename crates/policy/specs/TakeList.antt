@@ -1,7 +1,7 @@
 -- Taking the list of the rule file. Definitions only.
 --   paper               an answer on paper: the words of the list
---   ListTaken           the promise: 12, 9 or 10 of the rule file f, then 4 where the room is less than the list's words;
---                       else how many words it has, which stand in front
+--   ListTaken           the promise: 12, 9 or 10 of the rule file f, then 4 where the room is less than the list's
+--                       words; else how many words it has, which stand in front
 use Prim.Native.Nat.{ℕ}
 use mathlib.Core.List.{List, [], _∷_}
 use mathlib.Core.Option.{Option}

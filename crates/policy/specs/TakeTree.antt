@@ -1,7 +1,7 @@
 -- Taking the tree of the tree file. Definitions only.
 --   paper               an answer on paper: the words of the nodes, and of the pool
---   TreeTaken           the promise: 12, 9 or 10 of the tree file f, then 4 where the lent words are less than its nodes
---                       or its pool; else how many words these have, which stand in front of both outputs
+--   TreeTaken           the promise: 12, 9 or 10 of the tree file f, then 4 where the lent words are less than its
+--                       nodes or its pool; else how many words these have, which stand in front of both outputs
 use Prim.Native.Nat.{ℕ}
 use mathlib.Core.List.{List, [], _∷_}
 use mathlib.Core.Option.{Option}

@@ -53,13 +53,18 @@ module _
   said-by w = record { answers = w .answers }
 
   -- where the verdict is fine the values are the answer, and the new words stand in front
-  pub writes-fine : v ≡ Fine → paper r ≡ success values → after ≡ written new found → Writes paper v values new found r after
+  pub writes-fine :
+      v ≡ Fine → paper r ≡ success values → after ≡ written new found → Writes paper v values new found r after
   writes-fine e q left =
-      record { answers = q ∙ sym (giving-fine values e); leaves = left ∙ sym (leaving-fine (written new found) found e) }
+      record {
+        answers = q ∙ sym (giving-fine values e);
+        leaves = left ∙ sym (leaving-fine (written new found) found e);
+      }
 
   -- a refusal of the verdict is the answer, and the words are as found
   pub writes-refused :
-      {why : Refusal} → v ≡ Refused why → paper r ≡ onPaper why → after ≡ found → Writes paper v values new found r after
+      {why : Refusal} → v ≡ Refused why → paper r ≡ onPaper why → after ≡ found →
+      Writes paper v values new found r after
   writes-refused e q left =
       record {
         answers = q ∙ sym (giving-refused values e);
@@ -82,7 +87,8 @@ module _
 
   -- a check before, that is fine, changes nothing
   pub writes-after :
-      {u : Verdict} → u ≡ Fine → Writes paper v values new found r after → Writes paper (u then v) values new found r after
+      {u : Verdict} → u ≡ Fine → Writes paper v values new found r after →
+      Writes paper (u then v) values new found r after
   writes-after e w =
       record {
         answers = w .answers ∙ ap (λ (x : Verdict). x giving values) (sym (then-fine v e));

@@ -1,5 +1,5 @@
--- Counted on no room, then put: one pass counts what it would write and writes as far as there is room. It runs first on
--- no room at all; then the room is judged; then it runs on all of it.
+-- Counted on no room, then put: one pass counts what it would write, and writes as far as there is room. It runs first
+-- on no room at all; then the room is judged; then it runs on all of it.
 use Prim.Native.Nat.{ℕ, _≤_, _<_}
 use native.Mathlib.Nat.{zero-add}
 use native.Mathlib.Omega.{arith}

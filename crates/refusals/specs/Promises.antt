@@ -1,8 +1,9 @@
 -- What every call promises, and what a promise fixes. Definitions only.
---   Says paper v values r      the promise of a call that writes nothing: its answer r is, on paper, v giving the values
---   Writes paper v values new found r after    the promise of a call that is lent the words `found`: its answer is such,
---                              and the words after it are the new ones in front and the rest as found; on a refusal
---                              all are as found
+--   Says paper v values r      the promise of a call that writes nothing: its answer r is, on paper, v giving the
+--                              values
+--   Writes paper v values new found r after    the promise of a call that is lent the words `found`: its answer is
+--                              such, and the words after it are the new ones in front and the rest as found; on a
+--                              refusal all are as found
 --   Apart paper                the paper tells answers apart: two that are the same on it are the same
 --   Fixes P                    two results that the promise P allows are equal
 --   Settles P                  so are two results and two states of the lent words

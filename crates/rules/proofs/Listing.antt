@@ -7,8 +7,8 @@ use mathlib.Core.Logic.{_↔_}
 use mathlib.Core.List.{List, [], _∷_}
 use Rattle.facts.specs.Lists.{upFrom, keep, has, rises}
 use Rattle.facts.proofs.Bools.{fails}
-use Rattle.facts.proofs.Members.{has-head, kept-iff, up-iff}
-use Rattle.facts.proofs.Rising.{rises-head, rises-cons, rises-kept, rises-up, rises-low}
+use Rattle.facts.proofs.Members.{has-first, kept-iff, up-iff}
+use Rattle.facts.proofs.Rising.{rises-first, rises-cons, rises-kept, rises-up, rises-low}
 use Rattle.rules.specs.Words.{ruleCount}
 use Rattle.rules.specs.Matching.{matches, matching}
 
@@ -33,8 +33,8 @@ module _ (rs h : List ℕ) where
     pub none-before : (q : ℕ) → q < r → matches rs h q ≡ false
 
   -- the head of the list is the lowest rule that matches
-  pub head-is-lowest : (r : ℕ) (rest : List ℕ) → matching rs h ≡ r ∷ rest → Lowest r
-  head-is-lowest r rest e =
+  pub first-is-lowest : (r : ℕ) (rest : List ℕ) → matching rs h ≡ r ∷ rest → Lowest r
+  first-is-lowest r rest e =
       record {
         rule = m .0;
         hits = m .1;
@@ -42,12 +42,12 @@ module _ (rs h : List ℕ) where
       }
     where
       m : (r < ruleCount rs) × (matches rs h r ≡ true)
-      m = listed-iff-matches r .0 (rw e (has-head r rest r refl))
+      m = listed-iff-matches r .0 (rw e (has-first r rest r refl))
 
       low : (q : ℕ) → matches rs h q ≡ true → q < r → r ≤ q
       low q t l =
           rises-low r (r ∷ rest) q
-          (rises-cons r r rest (omega arith) (rises-head 0 r rest (rw e at matching-rises) .1))
+          (rises-cons r r rest (omega arith) (rises-first 0 r rest (rw e at matching-rises) .1))
           (rw e at (listed-iff-matches q .1 (omega (arith, m .0), t)))
 
   -- where the list is empty no rule matches

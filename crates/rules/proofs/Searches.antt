@@ -25,7 +25,7 @@ use Rattle.rules.specs.LineAll.{allVerdict, LineAllSearched}
 use Rattle.rules.specs.LineFirst.{firstOf, LineFirstSearched}
 use Rattle.rules.specs.LineSteps.{Searchable, MatchesListed, FirstIs}
 use Rattle.rules.proofs.Lists.{fine-iff-good}
-use Rattle.rules.proofs.Listing.{head-is-lowest}
+use Rattle.rules.proofs.Listing.{first-is-lowest}
 
 module _ (rs h : List ℕ) where
   -- a good list and a legal header can be searched
@@ -70,7 +70,7 @@ module _ (rs h : List ℕ) where
   first-is-rule : {n : ℕ} (ms : List ℕ) → matching rs h ≡ ms → n ∷ [] ≡ firstOf ms → n < ruleCount rs
   first-is-rule [] e q = let z : _≡_ {A = ℕ} 0 1 = cc in absurd (omega arith)
   first-is-rule {n} (r ∷ rest) e q =
-      let same : n ≡ r = cc in omega (arith, head-is-lowest rs h r rest e .rule)
+      let same : n ≡ r = cc in omega (arith, first-is-lowest rs h r rest e .rule)
 
   -- a rule that is found is one of the few of a good list
   pub first-below : {n : ℕ} → LineFirstSearched rs h (first.Rule n) → n < mostRules

@@ -5,15 +5,16 @@ use native.Mathlib.Nat.{zero-add}
 use mathlib.Core.Path.{_≡_, refl, sym, ap, _∙_, subst}
 use mathlib.Core.List.{List, [], _∷_, _++_}
 use lib.ListN.{length}
-use lib.Seq.{sets, sets-eq}
+use lib.Seq.{sets}
 use Rattle.facts.specs.Lists.{written}
 use Rattle.facts.proofs.Setting.{none-before}
 use Rattle.refusals.specs.declared.Refusal.the-variants.{OutputShort}
 use Rattle.refusals.specs.Paper.{success}
 use Rattle.refusals.specs.Promises.{Apart}
-use Rattle.refusals.proofs.Order.{room-short, room-fine-iff}
+use Rattle.refusals.proofs.Order.{room-fine-iff}
 use Rattle.refusals.proofs.Unique.{on-paper-unique, refusal-not-success}
-use Rattle.refusals.proofs.Promises.{writes-refused, writes-fine}
+use Rattle.refusals.proofs.Promises.{writes-fine}
+use Rattle.refusals.proofs.Rooms.{counted-short, counted-put}
 use Rattle.text.specs.declared.put.Written.{Written}
 use Rattle.text.specs.declared.put.Written.the-variants.{Refused, Bytes}
 use Rattle.text.specs.Puts.{Put}
@@ -27,11 +28,6 @@ written-apart (Refused a) (Bytes n) e = refusal-not-success e
 written-apart (Bytes m) (Refused b) e = refusal-not-success (sym e)
 written-apart (Bytes m) (Bytes n) e = cc
 
--- numbers that are set from the front on, where there is room, stand in front
-pub in-front : (new found : List ℕ) → length new ≤ length found → sets found 0 new ≡ written new found
-unfolding written
-in-front new found h = sets-eq new found 0 (omega arith) ∙ rw zero-add
-
 module _ {bs : List ℕ} (few : length bs < 2 ^ 64) where
   -- the place behind the bytes is their number
   count-is : {old new : List ℕ} {n : ℕ} → Put old 0 bs new n → n ≡ length bs
@@ -43,8 +39,7 @@ module _ {bs : List ℕ} (few : length bs < 2 ^ 64) where
 
     -- bytes that were counted on no room, and for which there is none, are refused with their number
     pub said-short : length (kept ++ before) < needed → Said bs before (Refused (OutputShort needed 0)) (kept ++ before)
-    said-short h =
-        writes-refused (sym (room-short (length bs) (length before) (count-is first) (rw same at h))) refl same
+    said-short h = counted-short (count-is first) (rw same at h) refl same
 
     -- those for which there is room, and that were then put, are said
     pub said-put :
@@ -52,8 +47,8 @@ module _ {bs : List ℕ} (few : length bs < 2 ^ 64) where
         Said bs before (Bytes n) after
     said-put h p =
         let enough : length bs ≤ length before = omega (arith, count-is first, ap length same) in
-        writes-fine (room-fine-iff _ _ .1 enough) (ap (λ (k : ℕ). success (k ∷ [])) (count-is p))
-        (p .bytes ∙ ap (λ (l : List ℕ). sets l 0 bs) same ∙ in-front bs before enough)
+        counted-put enough (ap (λ (k : ℕ). success (k ∷ [])) (count-is p))
+        (p .bytes ∙ ap (λ (l : List ℕ). sets l 0 bs) same)
 
 -- saying no bytes changes nothing
 pub said-nothing : (before : List ℕ) → Said [] before (Bytes 0) before

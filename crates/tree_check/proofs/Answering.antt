@@ -43,7 +43,8 @@ module _ (rs nodes pool : List ℕ) (ok : checkVerdict rs nodes pool ≡ Fine) (
       let same = same-list rs nodes pool ok h legal in
       let room = room-fine-iff (length (matching rs h)) (length found) .1 enough in
       writes-fine (then-fine _ (refuses-none rs nodes pool ok h legal) ∙ rw same room)
-      (ap (λ (ms : List ℕ). paper (Found (length ms) (visited (walkOf nodes h)) (length (leafList nodes pool h)))) (sym same))
+      (ap (λ (ms : List ℕ). paper (Found (length ms) (visited (walkOf nodes h)) (length (leafList nodes pool h))))
+      (sym same))
       (ap (λ (ms : List ℕ). written ms found) (sym same))
 
   -- this is an answer of the search for the first match

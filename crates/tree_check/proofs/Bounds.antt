@@ -93,7 +93,8 @@ module _ {rs nodes pool : List ℕ} where
   longest (ofCut {b = b} {i = i} {l₁ = l₁} {l₂ = l₂} a d s r) = go (within-or-over l₂ l₁) (longest s) (longest r)
     where
       go :
-          WithinOrOver l₂ l₁ → (w : Way nodes (leftBox nodes b i) (i + 1)) × (length (entries nodes pool (w .at)) ≡ l₁) →
+          WithinOrOver l₂ l₁ →
+          (w : Way nodes (leftBox nodes b i) (i + 1)) × (length (entries nodes pool (w .at)) ≡ l₁) →
           (w : Way nodes (rightBox nodes b i) (childOf nodes i)) × (length (entries nodes pool (w .at)) ≡ l₂) →
           (w : Way nodes b i) × (length (entries nodes pool (w .at)) ≡ max l₁ l₂)
       go (atMost o) p q = (way-left d (p .0), p .1 ∙ sym (max-eq-left o))

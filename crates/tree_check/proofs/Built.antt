@@ -92,11 +92,14 @@ module _ (rs nodes pool : List ℕ) where
   part-built : (k : ℕ) (b : List (List ℕ)) (i : ℕ) → BuiltSo k b i (partOf k rs nodes pool b i)
   part-built zero b i = go (within-or-over (nodeCount nodes) i) (within-or-over leafMark (fieldOf nodes i))
     where
-      go : WithinOrOver (nodeCount nodes) i → WithinOrOver leafMark (fieldOf nodes i) → BuiltSo 0 b i (partOf 0 rs nodes pool b i)
+      go :
+          WithinOrOver (nodeCount nodes) i → WithinOrOver leafMark (fieldOf nodes i) →
+          BuiltSo 0 b i (partOf 0 rs nodes pool b i)
       go (atMost a) s = rw (part-missing rs nodes pool b i 0 a) six
       go (over a) (atMost f) = rw (part-leaf rs nodes pool b i a 0 f) (leaf-built 0 b i a f)
       go (over a) (over f) = rw (part-deep rs nodes pool b i a f) six
-  part-built (suc k) b i = go (within-or-over (nodeCount nodes) i) (within-or-over leafMark (fieldOf nodes i)) (λ d j. part-built k d j)
+  part-built (suc k) b i =
+      go (within-or-over (nodeCount nodes) i) (within-or-over leafMark (fieldOf nodes i)) (λ d j. part-built k d j)
     where
       go :
           WithinOrOver (nodeCount nodes) i → WithinOrOver leafMark (fieldOf nodes i) →

@@ -64,7 +64,9 @@ module _ (rs nodes pool : List ℕ) (d : List (List ℕ)) (x : ℕ) where
   pub complete-iff : (lackOf rs (entries nodes pool x) d x ≡ Complete) ↔ LacksNone rs nodes pool d x
   complete-iff = (λ e. to e (within-or-over (ruleCount rs) low), of)
     where
-      to : lackOf rs (entries nodes pool x) d x ≡ Complete → WithinOrOver (ruleCount rs) low → LacksNone rs nodes pool d x
+      to :
+          lackOf rs (entries nodes pool x) d x ≡ Complete → WithinOrOver (ruleCount rs) low →
+          LacksNone rs nodes pool d x
       to e (atMost l) r u = not-lacking-iff r .0 (low-none-iff .0 l r u)
       to e (over l) r u = lacks-not-complete (sym (lack-there l) ∙ e)
 

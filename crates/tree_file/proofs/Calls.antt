@@ -11,7 +11,8 @@ use Rattle.facts.proofs.Setting.{written-front}
 use Rattle.refusals.specs.declared.Refusal.the-variants.{TextStops}
 use Rattle.refusals.specs.declared.Verdict.the-variants as verdict
 use Rattle.refusals.proofs.Order.{holds-fine, then-fine, then-fine-iff, room-fine-iff, refused-not-fine}
-use Rattle.refusals.proofs.Promises.{said-by, fine-by, left-written, writes-unique, writes-fine, writes-refused, both-unique}
+use Rattle.refusals.proofs.Promises.{said-by, fine-by, left-written, writes-unique}
+use Rattle.refusals.proofs.Promises.{writes-fine, writes-refused, both-unique}
 use Rattle.trees.specs.Words.{nodeWords, nodeCount}
 use Rattle.trees.proofs.Sizes.{sizes-fine-iff}
 use Rattle.text.specs.declared.put.Written.{Written}
@@ -101,4 +102,5 @@ module _ (s : List ℕ) {nodes pool nodes′ pool′ : List ℕ} {n m p : ℕ}
   cut-short u v e more q =
       let why = TextStops (length (linesOf (split u))) in
       let stops = cut-refused u v _ (ap treeIn (sym e) ∙ read-tree) more in
-      both-unique read-apart q (writes-refused {why = why} (rw stops) refl refl, writes-refused {why = why} (rw stops) refl refl)
+      both-unique read-apart q
+      (writes-refused {why = why} (rw stops) refl refl, writes-refused {why = why} (rw stops) refl refl)

@@ -15,10 +15,10 @@ use Rattle.refusals.specs.Promises.{Apart}
 use Rattle.refusals.proofs.Order.{holds-fine, fails-refused, then-fine, then-refused, room-short, room-fine-iff}
 use Rattle.refusals.proofs.Unique.{on-paper-unique, refusal-not-success}
 use Rattle.refusals.proofs.Promises.{writes-refused, writes-fine}
+use Rattle.refusals.proofs.Rooms.{sets-written}
 use Rattle.trees.specs.Words.{nodeWords, nodeCount, mostNodes, mostPool}
 use Rattle.text.specs.Text.{Reading, good}
 use Rattle.text.proofs.Runs.{refused-good}
-use Rattle.text.proofs.Said.{in-front}
 use Rattle.tree_file.specs.declared.read.Read.{Read}
 use Rattle.tree_file.specs.declared.read.Read.the-variants.{Refused, Tree}
 use Rattle.tree_file.specs.TreeText.{tree, treeIn}
@@ -108,8 +108,8 @@ module _ (s nodes pool kept kept′ : List ℕ) (none : length kept ≡ 0) (none
             let words : length (w .words) ≡ length (x .words) = cc in
             let entries : length (w .entries) ≡ length (x .entries) = cc in
             let count : nodeCount (x .words) ≡ m′ = omega (arith, x .size) in
-            let ns = in-front (x .words) nodes (omega (arith, w .size, ap length same)) in
-            let es = in-front (x .entries) pool (omega (arith, w .total, ap length also)) in (
+            let ns = sets-written (x .words) nodes (omega (arith, w .size, ap length same)) in
+            let es = sets-written (x .entries) pool (omega (arith, w .total, ap length also)) in (
               writes-fine fine (rw (x .says, count, x .total))
                   (x .nodes-are ∙ ap (λ (l : List ℕ). sets l 0 (x .words)) same ∙ ns ∙ rw (x .says)),
               writes-fine fine (rw (x .says, count, x .total))

@@ -3,7 +3,8 @@
 //   search::tree_first       the first of them: 3, 6, 7
 //   spelt::size_verdict      whether there are nodes, and not too many words: 5
 //   spelt::spelt_verdict     whether the words are spelt, there being so many rules: 6, 7
-// Each takes any words: the tree search does not repeat the tree check. Rests on facts, lent, refusals, fields and rules.
+// Each takes any words: the tree search does not repeat the tree check. Rests on facts, lent, refusals, fields and
+// rules.
 pub mod search;
 pub mod spelt;
 pub mod walk;

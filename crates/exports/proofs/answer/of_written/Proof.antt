@@ -17,7 +17,8 @@ enum-known-said-2 : tie.Need-enum-known-said-2
 enum-known-said-2 c = search needs
 
 returns : tie.Need-returns
-returns c = c .of-refusal .ensures ∙ sym (ap (λ (x : Written). inWords plainly (paper x)) (c .before .before .said .given .1))
+returns c =
+    c .of-refusal .ensures ∙ sym (ap (λ (x : Written). inWords plainly (paper x)) (c .before .before .said .given .1))
 
 returns-2 : tie.Need-returns-2
 returns-2 c = sym (ap (λ (x : Written). inWords plainly (paper x)) (c .before .said2 .given .1))

@@ -18,7 +18,8 @@ same-length-2 c = search needs
 
 returns : tie.Need-returns
 returns c =
-    record { said = _; promised = c .before .before .before .before .before .tree-read .ensures; answers = c .of-read .ensures }
+    let call = c .before .before .before .before .before in
+    record { said = _; promised = call .tree-read .ensures; answers = c .of-read .ensures }
 
 pub wick-tree-read-spec : {M : Type 1} → statement M
 wick-tree-read-spec =

@@ -28,7 +28,8 @@ same-length c = search needs
 returns-2 : tie.Need-returns-2
 returns-2 c =
     let w = c .before .before in
-    all-found _ _ (sym (w .before .before .before .before .line-verdict .ensures) ∙ w .before .before .enum-told .given .1)
+    let told = w .before .before in
+    all-found _ _ (sym (told .before .before .line-verdict .ensures) ∙ told .enum-told .given .1)
     (w .list-matches .ensures)
 
 pub line-all-spec : {M : Type 1} → statement M

@@ -1,5 +1,5 @@
--- `rules::line::store_matches` meets its contract. The invariant: what is stored, and what will be of the rules from here
--- on, are all that match. Assumes nothing.
+-- `rules::line::store_matches` meets its contract. The invariant: what is stored, and what will be of the rules from
+-- here on, are all that match. Assumes nothing.
 use Prim.Native.Nat.{_≤_, _-_}
 use native.Mathlib.Nat.{sub-zero}
 use native.Mathlib.Omega.{arith}

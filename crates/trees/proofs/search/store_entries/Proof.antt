@@ -1,5 +1,5 @@
--- `trees::search::store_entries` meets its contract. The invariant: what is stored, and what will be of the entries from
--- here on, are all that match. Assumes nothing.
+-- `trees::search::store_entries` meets its contract. The invariant: what is stored, and what will be of the entries
+-- from here on, are all that match. Assumes nothing.
 use Prim.Native.Nat.{_≤_, _-_}
 use native.Mathlib.Omega.{arith}
 use mathlib.Core.Path.{_≡_, _∙_}

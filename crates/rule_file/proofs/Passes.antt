@@ -1,5 +1,5 @@
 -- The pass over the lines of the rules, rule by rule. `ReadSoFar` is the invariant: the rules below i are read, their
--- words are put, and the rest decides.
+-- words are stored, and the rest decides.
 use Prim.Native.Nat.{ℕ, _+_, _*_, _^_, _≤_, _<_}
 use native.Mathlib.Omega.{arith}
 use mathlib.Core.Bool.{true}
@@ -24,13 +24,13 @@ pub record ReadSoFar (s old : List ℕ) (n : ℕ) (first : Cursor) (i : ℕ) (c 
   pub words : List ℕ
   pub left : restFrom n s first ≡ rulesFrom (within n i words) s c
   pub size : length words ≡ i * ruleWords
-  pub put : new ≡ sets old 0 words
+  pub rules-are : new ≡ sets old 0 words
   pub stands : Stands s c
   pub most : i ≤ n
 
 -- before the first rule nothing is read, and all is left
 pub so-far-first : {s old : List ℕ} {n : ℕ} {c : Cursor} → Stands s c → ReadSoFar s old n c 0 c old
-so-far-first h = record { words = []; left = refl; size = refl; put = refl; stands = h; most = omega arith }
+so-far-first h = record { words = []; left = refl; size = refl; rules-are = refl; stands = h; most = omega arith }
 
 module _ {s old new : List ℕ} {n i : ℕ} {first c : Cursor} (g : ReadSoFar s old n first i c new) where
   -- the line of a rule leads to the next
@@ -42,7 +42,7 @@ module _ {s old new : List ℕ} {n i : ℕ} {first c : Cursor} (g : ReadSoFar s 
         words = g .words ++ r .words;
         left = g .left ∙ r .moved n (g .words) h;
         size = length-append (g .words) (r .words) ∙ omega (arith, g .size, r .size);
-        put = r .put ∙ rw (e, g .put) (sym (sets-append old 0 (g .words) (r .words)));
+        rules-are = r .rules-are ∙ rw (e, g .rules-are) (sym (sets-append old 0 (g .words) (r .words)));
         stands = r .stands;
         most = omega arith;
       }
@@ -77,5 +77,5 @@ module _ {s old new : List ℕ} {n i : ℕ} {first c : Cursor} (g : ReadSoFar s 
           says = subst (EndComes (restFrom n s first) (g .words)) (sym q) last-comes;
           size = omega (arith, g .size, g .most);
           few = few;
-          put = g .put;
+          rules-are = g .rules-are;
         }

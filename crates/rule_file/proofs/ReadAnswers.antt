@@ -58,6 +58,6 @@ module _ (s kept : List ℕ) {before : List ℕ} (none : length kept ≡ 0) wher
         let words : p .words ≡ ws = (let e = sym (p .says) ∙ q .says in cc) in
         let room : length ws ≤ length before = omega (arith, p .size, ap length words, ap length same) in
         let count : m ≡ ruleCount ws = omega (arith, q .size) in
-        let put = q .put ∙ ap (λ (l : List ℕ). sets l 0 ws) same ∙ sets-written ws before room in
+        let stored = q .rules-are ∙ ap (λ (l : List ℕ). sets l 0 ws) same ∙ sets-written ws before room in
         writes-fine (rw (q .says) (room-fine-iff _ _ .1 room)) (rw (q .says) (ap (λ (k : ℕ). success (k ∷ [])) count))
-        (put ∙ ap (λ (a : _). written (wordsIn a) before) (sym (q .says)))
+        (stored ∙ ap (λ (a : _). written (wordsIn a) before) (sym (q .says)))

@@ -81,7 +81,7 @@ module _ {s : List ℕ} {c : Cursor} (small : length s < 2 ^ 63) (stands : Stand
     pub rule-taken :
         {old new : List ℕ} → ruleFits i values ≡ true → new ≡ sets old (i * ruleWords) (ruleOf values) →
         RuleStored s c i old new d
-    rule-taken {old} {new} h put =
+    rule-taken h stored =
         let next : ℕ → List ℕ → State = λ n ws. within n (i + 1) (ws ++ ruleOf values) in
         let e : (n : ℕ) (ws : List ℕ) → i < n → rulesStep (within n i ws) (t .this) ≡ some (next n ws) =
         λ n ws p. rw (lt-ltb i n p, t .read, ← all-read t, h) in
@@ -91,7 +91,7 @@ module _ {s : List ℕ} {c : Cursor} (small : length s < 2 ^ 63) (stands : Stand
               λ n ws p.
               on-next small stands rulesStep finish (within n i ws) d (next n ws) (t .next) (t .count) (e n ws p);
           size = rule-length values;
-          put = put;
+          rules-are = stored;
           stands = next-stands small stands (t .next) (t .within) (t .count);
         }
 

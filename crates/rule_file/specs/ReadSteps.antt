@@ -49,7 +49,7 @@ pub record RuleStored (s : List ℕ) (c : Cursor) (i : ℕ) (old new : List ℕ)
   pub moved :
       (n : ℕ) (ws : List ℕ) → i < n → rulesFrom (within n i ws) s c ≡ rulesFrom (within n (i + 1) (ws ++ words)) s d
   pub size : length words ≡ ruleWords
-  pub put : new ≡ sets old (i * ruleWords) words
+  pub rules-are : new ≡ sets old (i * ruleWords) words
   pub stands : Stands s d
 
 abbrev pub RuleLineRead : List ℕ → Cursor → ℕ → List ℕ → List ℕ → Step → Type 0
@@ -62,7 +62,7 @@ pub record RulesStored (a : Reading (List ℕ)) (old new : List ℕ) (n : ℕ) :
   pub says : a ≡ good words
   pub size : length words ≡ n * ruleWords
   pub few : n ≤ mostRules
-  pub put : new ≡ sets old 0 words
+  pub rules-are : new ≡ sets old 0 words
 
 abbrev pub PassRead : Reading (List ℕ) → List ℕ → List ℕ → Read → Type 0
 PassRead a old new (Refused why) = a ≡ refused why

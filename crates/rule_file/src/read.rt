@@ -49,7 +49,7 @@ pub fn rules_read(text: &[u8], rules: &mut [u32]) -> Read
     }
 }
 
-// One pass: judges the text, counts its rules, and puts their words as far as there is room.
+// One pass: judges the text, counts its rules, and stores their words as far as there is room.
 fn read_pass(text: &[u8], rules: &mut [u32]) -> Read
     ensures { λ r. ⌜ PassRead (rulesIn (now (text .entry))) (now (rules .entry)) (now (rules .exit)) r ⌝ }
 {
@@ -104,7 +104,7 @@ fn rule_lines(text: &[u8], c: Cursor, n: usize, rules: &mut [u32]) -> Read
     }
 }
 
-// The line of rule `i`, whose words are put.
+// The line of rule `i`, whose words are stored.
 fn rule_line(text: &[u8], c: Cursor, i: usize, rules: &mut [u32]) -> Step
     requires { ⌜ Stands (now text) c × (i < mostRules) ⌝ }
     ensures { λ r. ⌜ RuleLineRead (now (text .entry)) c i (now (rules .entry)) (now (rules .exit)) r ⌝ }

@@ -10,30 +10,25 @@ use Rattle.text.specs.declared.cursor.Cursor.{Cursor}
 use Rattle.text.specs.Words.{treeWord, threeTabs}
 use Rattle.text.specs.Cursors.{wrongAt, cursorAt}
 use Rattle.text.specs.Text.{refused}
-use Rattle.text.specs.Onward.{Stands}
 use Rattle.text.proofs.LineViews.{number-at}
 use Rattle.text.proofs.NextLines.{Taken, LineRefused}
 use Rattle.text.proofs.Onward.{top-stands, next-stands, on-next, on-wrong, not-taken}
-use Rattle.tree_file.specs.declared.read.Counts.{Counts}
-use Rattle.tree_file.specs.declared.read.First.the-variants.{Refused, Announces}
 use Rattle.tree_file.specs.TreeText.{start, countsFit, step, finish, treeIn}
-use Rattle.tree_file.specs.ReadSteps.{Limits, begun, treeFrom, FirstLineRead}
+use Rattle.tree_file.specs.ReadSteps.{treeFrom, TreeAnnounced}
 
 abbrev top : Cursor
 top = cursorAt 0 0
 
 -- what a text says is what it says from its front on
-from-front : (s : List ℕ) → treeIn s ≡ treeFrom start s top
+from-start : (s : List ℕ) → treeIn s ≡ treeFrom start s top
 unfolding treeIn
-from-front s = refl
+from-start s = refl
 
 module _ {s : List ℕ} (small : length s < 2 ^ 63) where
   -- where the first line was not taken the text is refused
-  pub first-refused : {why : Refusal} → LineRefused s top treeWord threeTabs why → FirstLineRead s (Refused why)
+  pub first-not : {why : Refusal} → LineRefused s top treeWord threeTabs why → treeIn s ≡ refused why
   unfolding step finish
-  first-refused r =
-      FirstLineRead.refuses
-      (from-front s ∙ not-taken small (top-stands s) step finish start r refl (λ l e. rw e))
+  first-not r = from-start s ∙ not-taken small (top-stands s) step finish start r refl (λ l e. rw e)
 
   module _ {d : Cursor} {values : List ℕ} (t : Taken s top treeWord threeTabs d values) where
     number : (j : ℕ) → j < 3 → getD values j 0 ≡ getD (t .vs) j 0
@@ -45,31 +40,22 @@ module _ {s : List ℕ} (small : length s < 2 ^ 63) where
           (sym (en ∙ number 0 (omega arith)), sym (em ∙ number 1 (omega arith)), sym (ep ∙ number 2 (omega arith)))
 
       -- counts past the limits are refused
-      pub first-wrong : {why : Refusal} → countsFit n m p ≡ false → why ≡ wrongAt 0 → FirstLineRead s (Refused why)
+      pub first-wrong : {why : Refusal} → countsFit n m p ≡ false → why ≡ wrongAt 0 → treeIn s ≡ refused why
       unfolding step
       first-wrong f q =
-          FirstLineRead.refuses
-          (from-front s ∙
+          from-start s ∙
           on-wrong small (top-stands s) step finish start (t .next)
-          (rw (t .read, numbers .0, numbers .1, numbers .2, f)) q)
+          (rw (t .read, numbers .0, numbers .1, numbers .2, f)) q
 
       -- counts within the limits are announced
-      pub first-announces :
-          countsFit n m p ≡ true → FirstLineRead s (Announces (record { rules = n; nodes = m; pool = p }) d)
+      pub first-taken : countsFit n m p ≡ true → TreeAnnounced s (record { rules = n; nodes = m; pool = p }) d
       unfolding step
-      first-announces f =
-          FirstLineRead.announces (record { fit = f })
-          (next-stands small (top-stands s) (t .next) (t .within) (t .count))
-          (from-front s ∙
-          on-next small (top-stands s) step finish start d _ (t .next) (t .count)
-          (rw (t .read, numbers .0, numbers .1, numbers .2, f)))
-
--- what a refused first line tells
-pub first-why : {s : List ℕ} {why : Refusal} → FirstLineRead s (Refused why) → treeIn s ≡ refused why
-first-why (FirstLineRead.refuses e) = e
-
--- what counts that are announced tell
-pub first-says :
-    {s : List ℕ} {k : Counts} {c : Cursor} → FirstLineRead s (Announces k c) →
-    Limits k × Stands s c × (treeIn s ≡ treeFrom (begun k) s c)
-first-says (FirstLineRead.announces l h e) = (l, h, e)
+      first-taken f =
+          record {
+            moved =
+                from-start s ∙
+                on-next small (top-stands s) step finish start d _ (t .next) (t .count)
+                (rw (t .read, numbers .0, numbers .1, numbers .2, f));
+            stands = next-stands small (top-stands s) (t .next) (t .within) (t .count);
+            limits = record { fit = f };
+          }

@@ -10,7 +10,6 @@ use Rattle.facts.proofs.Setting.{none-before}
 use Rattle.refusals.specs.declared.Refusal.{Refusal}
 use Rattle.refusals.specs.declared.Refusal.the-variants.{OutputShort}
 use Rattle.refusals.specs.declared.Verdict.the-variants as verdict
-use Rattle.refusals.specs.Order.{roomVerdict}
 use Rattle.refusals.specs.Promises.{Apart}
 use Rattle.refusals.proofs.Order.{holds-fine, fails-refused, then-fine, then-refused, room-short, room-fine-iff}
 use Rattle.refusals.proofs.Unique.{on-paper-unique, refusal-not-success}
@@ -48,70 +47,67 @@ stored-few s {n = n} w =
     let g = spelling-of-read s n (w .words) (w .entries) (w .says) in
     (omega (arith, few-nodes g, w .size), omega (arith, sizes-of g .short-pool, w .total))
 
-module _ (s nodes pool kept kept′ : List ℕ) (none : length kept ≡ 0) (none′ : length kept′ ≡ 0) where
-  same : kept ++ nodes ≡ nodes
-  same = none-before kept nodes none
+-- a refusal is the answer, and the words are as found
+refused-so :
+    (s : List ℕ) {nodes pool nodes′ pool′ : List ℕ} {why : Refusal} → nodes′ ≡ nodes → pool′ ≡ pool →
+    readVerdict (treeIn s) (length nodes) (length pool) ≡ verdict.Refused why →
+    TreeRead s nodes pool (Refused why) nodes′ pool′
+refused-so s same also e = (writes-refused e refl same, writes-refused e refl also)
 
-  also : kept′ ++ pool ≡ pool
-  also = none-before kept′ pool none′
-
-  -- a refusal is the answer, and the words are as found
-  refused-so :
-      {why : Refusal} → readVerdict (treeIn s) (length nodes) (length pool) ≡ verdict.Refused why →
-      TreeRead s nodes pool (Refused why) (kept ++ nodes) (kept′ ++ pool)
-  refused-so e = (writes-refused e refl same, writes-refused e refl also)
-
+module _
+    (s : List ℕ) {nodes pool kept kept′ a b : List ℕ} (none : length kept ≡ 0) (none′ : length kept′ ≡ 0) where
   -- a text that is refused is refused by the reader
   pub text-refused :
-      {why : Refusal} {a b c d : List ℕ} → PassRead (treeIn s) a b c d (Refused why) →
+      {why : Refusal} → PassRead (treeIn s) a b kept kept′ (Refused why) →
       TreeRead s nodes pool (Refused why) (kept ++ nodes) (kept′ ++ pool)
-  text-refused (PassRead.refuses e) = refused-so (rw e)
+  text-refused (PassRead.refuses e) = refused-so s (none-before kept nodes none) (none-before kept′ pool none′) (rw e)
 
-  module _ {a b : List ℕ} {n m p : ℕ} (w : TreeStored (treeIn s) a b kept kept′ n m p) where
+  module _ {n m p : ℕ} (w : TreeStored (treeIn s) a b kept kept′ n m p) where
     -- nodes for which there is no room are refused with their words
     pub nodes-refused :
         {needed : ℕ} → needed ≡ m * nodeWords → length (kept ++ nodes) < needed →
         TreeRead s nodes pool (Refused (OutputShort needed 0)) (kept ++ nodes) (kept′ ++ pool)
     unfolding roomFor
     nodes-refused e l =
+        let same = none-before kept nodes none in
         let short = room-short (length (w .words)) (length nodes) (e ∙ sym (w .size)) (rw same at l) in
-        refused-so (rw (w .says) (then-refused _ (sym short)))
+        refused-so s same (none-before kept′ pool none′) (rw (w .says) (then-refused _ (sym short)))
 
     module _ (l : m * nodeWords ≤ length (kept ++ nodes)) where
-      there : roomVerdict (length (w .words)) (length nodes) ≡ verdict.Fine
-      there = room-fine-iff (length (w .words)) (length nodes) .1 (omega (arith, w .size, ap length same))
-
       -- then a pool for which there is no room
       pub pool-refused :
           length (kept′ ++ pool) < p →
           TreeRead s nodes pool (Refused (OutputShort p 1)) (kept ++ nodes) (kept′ ++ pool)
       unfolding roomFor
       pool-refused h =
+          let same = none-before kept nodes none in
+          let also = none-before kept′ pool none′ in
+          let there = room-fine-iff (length (w .words)) (length nodes) .1 (omega (arith, w .size, ap length same)) in
           let short = lt-leb (length (w .entries)) (length pool) (omega (arith, w .total, ap length also)) in
-          refused-so (rw (w .says, ← w .total) (then-fine _ there ∙ fails-refused _ short))
+          refused-so s same also (rw (w .says, ← w .total) (then-fine _ there ∙ fails-refused _ short))
 
-      module _ (h : p ≤ length (kept′ ++ pool)) where
-        fine : readVerdict (treeIn s) (length nodes) (length pool) ≡ verdict.Fine
-        unfolding roomFor
-        fine =
-            let enough = le-leb (length (w .entries)) (length pool) (omega (arith, w .total, ap length also)) in
-            rw (w .says) (then-fine _ there ∙ holds-fine _ enough)
-
-        -- with room for both, the second pass is what the reader answers
-        pub read-again :
-            {r : Read} {nodes′ pool′ : List ℕ} → PassRead (treeIn s) (kept ++ nodes) (kept′ ++ pool) nodes′ pool′ r →
-            TreeRead s nodes pool r nodes′ pool′
-        read-again (PassRead.refuses e) = refused-good (sym e ∙ w .says)
-        read-again (PassRead.stores {n = n′} {m = m′} x) =
-            let e : good (tree n (w .words) (w .entries)) ≡ good (tree n′ (x .words) (x .entries)) =
-            sym (w .says) ∙ x .says in
-            let words : length (w .words) ≡ length (x .words) = cc in
-            let entries : length (w .entries) ≡ length (x .entries) = cc in
-            let count : nodeCount (x .words) ≡ m′ = omega (arith, x .size) in
-            let ns = sets-written (x .words) nodes (omega (arith, w .size, ap length same)) in
-            let es = sets-written (x .entries) pool (omega (arith, w .total, ap length also)) in (
-              writes-fine fine (rw (x .says, count, x .total))
-                  (x .nodes-are ∙ ap (λ (l : List ℕ). sets l 0 (x .words)) same ∙ ns ∙ rw (x .says)),
-              writes-fine fine (rw (x .says, count, x .total))
-                  (x .pool-is ∙ ap (λ (l : List ℕ). sets l 0 (x .entries)) also ∙ es ∙ rw (x .says)),
-            )
+      -- with room for both, the second pass is what the reader answers
+      pub read-again :
+          {r : Read} {nodes′ pool′ : List ℕ} → p ≤ length (kept′ ++ pool) →
+          PassRead (treeIn s) (kept ++ nodes) (kept′ ++ pool) nodes′ pool′ r → TreeRead s nodes pool r nodes′ pool′
+      unfolding roomFor
+      read-again h (PassRead.refuses e) = refused-good (sym e ∙ w .says)
+      read-again h (PassRead.stores {n = n′} {m = m′} x) =
+          let same = none-before kept nodes none in
+          let also = none-before kept′ pool none′ in
+          let e : good (tree n (w .words) (w .entries)) ≡ good (tree n′ (x .words) (x .entries)) =
+          sym (w .says) ∙ x .says in
+          let words : length (w .words) ≡ length (x .words) = cc in
+          let entries : length (w .entries) ≡ length (x .entries) = cc in
+          let room : length (x .words) ≤ length nodes = omega (arith, w .size, ap length same) in
+          let more : length (x .entries) ≤ length pool = omega (arith, w .total, ap length also) in
+          let fine = then-fine _ (room-fine-iff (length (x .words)) (length nodes) .1 room) ∙
+          holds-fine _ (le-leb (length (x .entries)) (length pool) more) in
+          let count : nodeCount (x .words) ≡ m′ = omega (arith, x .size) in (
+            writes-fine (rw (x .says) fine) (rw (x .says, count, x .total))
+                (x .nodes-are ∙ ap (λ (l : List ℕ). sets l 0 (x .words)) same ∙ sets-written (x .words) nodes room ∙
+                rw (x .says)),
+            writes-fine (rw (x .says) fine) (rw (x .says, count, x .total))
+                (x .pool-is ∙ ap (λ (l : List ℕ). sets l 0 (x .entries)) also ∙ sets-written (x .entries) pool more ∙
+                rw (x .says)),
+          )

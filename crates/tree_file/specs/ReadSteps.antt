@@ -35,11 +35,14 @@ begun k = inNodes k 0 [] []
 abbrev pub treeFrom : State → List ℕ → Cursor → Reading Tree
 treeFrom st s c = readOn step finish st s c
 
-pub data FirstLineRead (s : List ℕ) : First → Type 0 where
-  refuses : {why : Refusal} → treeIn s ≡ refused why → FirstLineRead s (Refused why)
-  announces :
-      {k : Counts} {c : Cursor} → Limits k → Stands s c → treeIn s ≡ treeFrom (begun k) s c →
-      FirstLineRead s (Announces k c)
+pub record TreeAnnounced (s : List ℕ) (k : Counts) (d : Cursor) : Type 0 where
+  pub moved : treeIn s ≡ treeFrom (begun k) s d
+  pub stands : Stands s d
+  pub limits : Limits k
+
+abbrev pub FirstLineRead : List ℕ → First → Type 0
+FirstLineRead s (Refused why) = treeIn s ≡ refused why
+FirstLineRead s (Announces k d) = TreeAnnounced s k d
 
 pub record TreeStored (a : Reading Tree) (nodes pool nodes′ pool′ : List ℕ) (n m p : ℕ) : Type 0 where
   pub words : List ℕ

@@ -1,10 +1,16 @@
 -- `rule_file::read::read_pass` meets its contract: the first line decides, and then the rest. Assumes nothing.
-use mathlib.Core.Path.{subst}
-use denote.Ref.{now}
+use mathlib.Core.Path.{_≡_, subst}
 use borrow.Author.Needs.{needs}
+use Rattle.rule_file.specs.declared.read.First.{First}
 use Rattle.rule_file.specs.ReadSteps.{FirstLineRead}
 use Rattle.rule_file.proofs.read.read_pass.Statement.{statement}
 use Rattle.rule_file.proofs.read.read_pass.Tie as tie
+
+-- what the first line says
+first :
+    (f : tie.After-first-line) {r : First} → f .first-line .result ≡ r →
+    FirstLineRead (f .before .before .before .args .text .now) r
+first f e = subst (FirstLineRead (f .before .before .before .args .text .now)) e (f .first-line .ensures)
 
 first-line-requires : tie.Need-first-line-requires
 first-line-requires c κs = search needs
@@ -17,16 +23,11 @@ enum-known-n c = search needs
 
 rule-lines-requires : tie.Need-rule-lines-requires
 rule-lines-requires c κs =
-    let f = c .before .before .before .before in
-    let w = f .before .before .before in
-    let h = subst (FirstLineRead (now (w .args .text))) (c .before .before .n .given .1) (f .first-line .ensures) in
+    let h = first (c .before .before .before .before) (c .before .before .n .given .1) in
     (h .stands, h .few)
 
 returns : tie.Need-returns
-returns c =
-    let f = c .before .before .before in
-    let w = f .before .before .before in
-    subst (FirstLineRead (now (w .args .text))) (c .before .why .given .1) (f .first-line .ensures)
+returns c = first (c .before .before .before) (c .before .why .given .1)
 
 same-length : tie.Need-same-length
 same-length c = search needs
@@ -34,10 +35,7 @@ same-length c = search needs
 returns-2 : tie.Need-returns-2
 returns-2 c =
     let m = c .before .before .before .before .before in
-    let f = m .before .before in
-    let w = f .before .before .before in
-    let h = subst (FirstLineRead (now (w .args .text))) (m .n .given .1) (f .first-line .ensures) in
-    rw (h .moved) (c .before .before .rule-lines .ensures)
+    rw (first (m .before .before) (m .n .given .1) .moved) (c .before .before .rule-lines .ensures)
 
 pub read-pass-spec : {M : Type 1} → statement M
 read-pass-spec =

@@ -1,4 +1,4 @@
--- `rule_file::read::rule_line` meets its contract: the line that was taken decides, and its words are put.
+-- `rule_file::read::rule_line` meets its contract: the line that was taken decides, and its words are stored.
 -- Assumes nothing.
 use native.Mathlib.Omega.{arith}
 use borrow.Author.Needs.{needs}
@@ -67,8 +67,8 @@ returns-3 c =
     let w = l .before .before .before .before .before in
     let taken = line-next _ _ _ _ (l .line .ensures) (m .said2 .given .1) in
     let test = held (t .before .rule-fits .ensures) (t .if1 .left) in
-    let put = rw (p .before .rule-of .ensures) at (p .store-rule .ensures) in
-    rule-taken (omega (arith, w .good)) (w .pre .0) _ taken test put
+    let stored = rw (p .before .rule-of .ensures) at (p .store-rule .ensures) in
+    rule-taken (omega (arith, w .good)) (w .pre .0) _ taken test stored
 
 pub rule-line-spec : {M : Type 1} → statement M
 rule-line-spec =

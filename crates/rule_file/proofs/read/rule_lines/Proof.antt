@@ -24,7 +24,7 @@ abbrev μ-loop : tie.MeasureT-loop
 rules-kept :
     (l : tie.At-loop Inv-loop μ-loop) →
     length (l .loop .rules) ≡ length (l .before .before .before .args .rules .now)
-rules-kept l = ap length (l .loop .inv .put) ∙ simp length-sets
+rules-kept l = ap length (l .loop .inv .rules-are) ∙ simp length-sets
 
 loop-holds : tie.Need-loop-holds Inv-loop μ-loop
 loop-holds c = so-far-first (c .before .before .pre .0)

@@ -3,7 +3,7 @@ use native.Mathlib.Omega.{arith}
 use borrow.Author.Needs.{needs}
 use Rattle.facts.proofs.Bools.{held, failed}
 use Rattle.text.proofs.NextLines.{line-next, line-refused}
-use Rattle.tree_file.proofs.FirstLines.{first-refused, first-wrong, first-announces}
+use Rattle.tree_file.proofs.FirstLines.{first-not, first-wrong, first-taken}
 use Rattle.tree_file.proofs.read.first_line.Statement.{statement}
 use Rattle.tree_file.proofs.read.first_line.Tie as tie
 
@@ -60,7 +60,7 @@ returns-2 : tie.Need-returns-2
 returns-2 c =
     let t = c .before in
     let l = t .before .before .before in
-    first-refused (omega (arith, l .before .before .before .before .good))
+    first-not (omega (arith, l .before .before .before .before .good))
     (line-refused _ _ _ _ (l .line .ensures) (t .said .given .1))
 
 returns-3 : tie.Need-returns-3
@@ -68,7 +68,7 @@ returns-3 c =
     let w = c .before .before in
     let t = w .before .before .before .before in
     let l = t .before .before .before in
-    first-announces (omega (arith, l .before .before .before .before .good))
+    first-taken (omega (arith, l .before .before .before .before .good))
     (line-next _ _ _ _ (l .line .ensures) (t .said2 .given .1)) (w .before .before .wide .ensures)
     (w .before .wide2 .ensures) (w .wide3 .ensures) (held (c .before .counts-fit .ensures) (c .if1 .left))
 

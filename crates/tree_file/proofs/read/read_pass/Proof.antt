@@ -1,10 +1,16 @@
 -- `tree_file::read::read_pass` meets its contract: the first line, and then the nodes. Assumes nothing.
-use mathlib.Core.Path.{subst}
+use mathlib.Core.Path.{_≡_, subst}
 use borrow.Author.Needs.{needs}
+use Rattle.tree_file.specs.declared.read.First.{First}
 use Rattle.tree_file.specs.ReadSteps.{FirstLineRead, PassRead}
-use Rattle.tree_file.proofs.FirstLines.{first-why, first-says}
 use Rattle.tree_file.proofs.read.read_pass.Statement.{statement}
 use Rattle.tree_file.proofs.read.read_pass.Tie as tie
+
+-- what the first line says
+first :
+    (f : tie.After-first-line) {r : First} → f .first-line .result ≡ r →
+    FirstLineRead (f .before .before .before .before .args .text .now) r
+first f e = subst (FirstLineRead (f .before .before .before .before .args .text .now)) e (f .first-line .ensures)
 
 first-line-requires : tie.Need-first-line-requires
 first-line-requires c κs = search needs
@@ -18,13 +24,11 @@ enum-known-counts c = search needs
 node-lines-requires : tie.Need-node-lines-requires
 node-lines-requires c κs =
     let w = c .before .before .before in
-    let says = first-says (subst (FirstLineRead _) (w .counts .given .1) (w .before .before .first-line .ensures)) in
-    (says .1, says .0)
+    let h = first (w .before .before) (w .counts .given .1) in
+    (h .stands, h .limits)
 
 returns : tie.Need-returns
-returns c =
-    PassRead.refuses
-    (first-why (subst (FirstLineRead _) (c .before .why .given .1) (c .before .before .before .first-line .ensures)))
+returns c = PassRead.refuses (first (c .before .before .before) (c .before .why .given .1))
 
 same-length : tie.Need-same-length
 same-length c = search needs
@@ -36,8 +40,7 @@ returns-2 : tie.Need-returns-2
 returns-2 c =
     let b = c .before .before .before .before in
     let w = b .before .before .before .before in
-    let says = first-says (subst (FirstLineRead _) (w .counts .given .1) (w .before .before .first-line .ensures)) in
-    rw (says .2) (b .node-lines .ensures)
+    rw (first (w .before .before) (w .counts .given .1) .moved) (b .node-lines .ensures)
 
 pub read-pass-spec : {M : Type 1} → statement M
 read-pass-spec =

@@ -46,8 +46,7 @@ returns : tie.Need-returns
 returns c =
     let w = c .before .before .before .before .before .before .before .before in
     let first = stored-of (subst (PassRead _ _ _ _ _) (c .before .before .count .given .1) (w .read-pass .ensures)) in
-    nodes-refused _ _ _ (w .read-pass .last .1 .0) (w .read-pass .last .1 .1 .0) (w .read-pass .kept .1 .0)
-    (w .read-pass .kept .1 .1 .0) first refl (c .if1 .taken)
+    nodes-refused _ (w .read-pass .kept .1 .0) (w .read-pass .kept .1 .1 .0) first refl (c .if1 .taken)
 
 same-length-3 : tie.Need-same-length-3
 same-length-3 c = search needs
@@ -60,8 +59,7 @@ returns-2 c =
     let w = c .before .before .before .before .before .before .before .before .before in
     let m = c .before .before .before in
     let first = stored-of (subst (PassRead _ _ _ _ _) (m .count .given .1) (w .read-pass .ensures)) in
-    pool-refused _ _ _ (w .read-pass .last .1 .0) (w .read-pass .last .1 .1 .0) (w .read-pass .kept .1 .0)
-    (w .read-pass .kept .1 .1 .0) first (c .before .if1 .left) (c .if2 .taken)
+    pool-refused _ (w .read-pass .kept .1 .0) (w .read-pass .kept .1 .1 .0) first (c .before .if1 .left) (c .if2 .taken)
 
 read-pass-requires-2 : tie.Need-read-pass-requires-2
 read-pass-requires-2 c κs = search needs
@@ -75,8 +73,7 @@ same-length-6 c = search needs
 returns-3 : tie.Need-returns-3
 returns-3 c =
     let w = c .before .before .before .before .before .before .before in
-    text-refused _ _ _ (w .read-pass .last .1 .0) (w .read-pass .last .1 .1 .0) (w .read-pass .kept .1 .0)
-    (w .read-pass .kept .1 .1 .0)
+    text-refused _ (w .read-pass .kept .1 .0) (w .read-pass .kept .1 .1 .0)
     (subst (PassRead _ _ _ _ _) (c .before .why .given .1) (w .read-pass .ensures))
 
 same-length-7 : tie.Need-same-length-7
@@ -92,8 +89,8 @@ returns-4 c =
     let w = room .before .before .before .before .before .before .before .before .before in
     let m = room .before .before .before in
     let first = stored-of (subst (PassRead _ _ _ _ _) (m .count .given .1) (w .read-pass .ensures)) in
-    read-again _ _ _ (w .read-pass .last .1 .0) (w .read-pass .last .1 .1 .0) (w .read-pass .kept .1 .0)
-    (w .read-pass .kept .1 .1 .0) first (room .before .if1 .left) (room .if2 .left) (again .read-pass2 .ensures)
+    read-again _ (w .read-pass .kept .1 .0) (w .read-pass .kept .1 .1 .0) first (room .before .if1 .left)
+    (room .if2 .left) (again .read-pass2 .ensures)
 
 pub tree-read-spec : {M : Type 1} → statement M
 tree-read-spec =

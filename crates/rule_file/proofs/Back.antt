@@ -1,27 +1,26 @@
 -- What is written of a list reads back as the list, over a format.
-use Prim.Native.Nat.{ℕ, zero, suc, _+_, _*_, _^_, _≤_, _<_}
+use Prim.Native.Nat.{ℕ, _+_, _*_, _^_, _<_}
 use native.Mathlib.Nat.{zero-mul}
 use native.Mathlib.Omega.{arith}
-use native.Mathlib.Numerals.{add-one}
 use mathlib.Core.Bool.{Bool}
 use mathlib.Core.Option.{some}
-use mathlib.Core.List.{List, _∷_}
-use mathlib.Core.Path.{_≡_, refl, ap, _∙_}
+use mathlib.Core.List.{List, [], _∷_}
+use mathlib.Core.Path.{_≡_, refl}
 use lib.ListN.{length, take, drop}
 use lib.Seq.{take-all}
 use borrow.Author.Tests.{lt-ltb, le-ltb, le-leb}
+use Rattle.text.specs.Words.{oneTab}
 use Rattle.text.specs.Line.{readLine, EachUnder}
 use Rattle.text.specs.Text.{good}
 use Rattle.text.specs.EndLines.{endLine}
 use Rattle.text.proofs.Below.{below-drop, below-take}
 use Rattle.text.proofs.Lines.{line-back}
-use Rattle.text.proofs.Runs.{Walk, here, go, walk-more}
-use Rattle.text.proofs.Files.{one-back, end-back, reads-as}
+use Rattle.text.proofs.Plain.{plain-of, line-plain}
+use Rattle.text.proofs.Files.{one-back, end-back, file-back}
 use Rattle.rule_file.specs.ListText.{Format, partAt, State, start, within, over, step, finish, listIn}
-use Rattle.rule_file.specs.ListText.{firstLine, ruleLine, ruleLines, listText}
+use Rattle.rule_file.specs.ListText.{firstLine, ruleLine, lineOf, listText}
 use Rattle.rule_file.proofs.Parts.{part-within, at-length, at-next}
 use Rattle.rule_file.proofs.Formats.{Sound, ListOf}
-use Rattle.rule_file.proofs.Writing.{file-plain}
 
 module _
     {F : Format} {holds : List ℕ → Bool} (s : Sound F holds) (n : ℕ) (ws : List ℕ) (g : ListOf F holds n ws)
@@ -58,16 +57,10 @@ module _
       rw (take-all (n * F .width) ws (omega (arith, g .size)), le-ltb n n (omega arith))
       (end-back (n + 1) (over ws) (omega (arith, s .most-fits, g .few)) refl)
 
-  rules-walk : (i : ℕ) → i ≤ n → Walk (step F) finish start (firstLine F n ∷ ruleLines F ws i) (reached i)
-  unfolding ruleLines
-  rules-walk zero h = go first-step here
-  rules-walk (suc i) h =
-      walk-more (step F) finish (rules-walk i (omega arith))
-      (rule-step i h ∙ ap (λ (k : ℕ). some (reached k)) (add-one i))
-
   -- what is written of a list of words of 32 bits reads back as the list
   pub list-back : listIn F (listText F n ws) ≡ good ws
   unfolding listIn listText
   list-back =
-      reads-as (step F) finish (file-plain F ws s n)
-      (walk-more (step F) finish (rules-walk n (omega arith)) end-step) refl
+      file-back (step F) finish (lineOf F ws) reached n
+      (line-plain (F .listWord) oneTab (n ∷ []) (s .plain-list) (plain-of oneTab refl))
+      (λ i. line-plain (F .ruleWord) (F .marks) _ (s .plain-rule) (s .plain-marks)) first-step rule-step end-step refl

@@ -1,5 +1,5 @@
 -- The text of a good list is short enough for a place to stand behind it.
-use Prim.Native.Nat.{ℕ, zero, suc, _+_, _*_, _^_, _≤_, _<_}
+use Prim.Native.Nat.{ℕ, _+_, _*_, _^_, _≤_, _<_}
 use native.Mathlib.Omega.{arith}
 use mathlib.Core.List.{List, [], _∷_, _++_}
 use mathlib.Core.Path.{_≡_, refl, ap}
@@ -11,12 +11,12 @@ use Rattle.text.specs.Text.{unlines}
 use Rattle.text.specs.EndLines.{endLine}
 use Rattle.text.proofs.Below.{below-drop, below-take}
 use Rattle.text.proofs.Sizes.{numberMost, line-size}
-use Rattle.text.proofs.Texts.{unlines-more}
+use Rattle.text.proofs.Files.{records-size}
 use Rattle.rules.specs.Words.{ruleWords, mostRules, ruleCount}
 use Rattle.rules.specs.Good.{listVerdict}
 use Rattle.rules.proofs.Lists.{fine-iff-good}
 use Rattle.rule_file.specs.Records.{ruleValues, ruleAt}
-use Rattle.rule_file.specs.ListText.{firstLine, ruleLine, ruleLines}
+use Rattle.rule_file.specs.ListText.{firstLine, lineOf, ruleLines}
 use Rattle.rule_file.specs.RuleText.{rulesFormat, rulesText}
 use Rattle.rule_file.proofs.Records.{values-below}
 use Rattle.rule_file.proofs.Writing.{text-parts}
@@ -27,18 +27,13 @@ line-length :
     length (ended (printLine w ms vs)) ≤ length w + length vs * numberMost + 1
 line-length w ms vs b = simp length-append (omega (arith, line-size w ms vs b))
 
-rules-length :
-    (ws : List ℕ) (i : ℕ) → i ≤ mostRules → EachUnder (2 ^ 32) ws →
-    length (unlines (ruleLines rulesFormat ws i)) ≤ i * 2 ^ 38
-unfolding ruleLines ruleValues unlines
-rules-length ws zero h b = omega arith
-rules-length ws (suc i) h b =
+rule-length :
+    (ws : List ℕ) (i : ℕ) → i < mostRules → EachUnder (2 ^ 32) ws → length (ended (lineOf rulesFormat ws i)) ≤ 2 ^ 38
+unfolding ruleValues
+rule-length ws i h b =
     let r : List ℕ = ruleAt ws i in
     let words = below-take (2 ^ 32) ruleWords (drop (i * ruleWords) ws) (below-drop (2 ^ 32) (i * ruleWords) ws b) in
-    let one = line-length ruleWord ruleMarks (ruleValues i r) (values-below i r (omega arith) words) in
-    let e = unlines-more (ruleLines rulesFormat ws i) (ruleLine rulesFormat i r) in
-    let n = length-append (unlines (ruleLines rulesFormat ws i)) (ended (ruleLine rulesFormat i r)) in
-    omega (arith, ap length e, n, one, rules-length ws i (omega arith) b)
+    omega (arith, line-length ruleWord ruleMarks (ruleValues i r) (values-below i r (omega arith) words))
 
 -- the text of a good list of words of 32 bits has fewer than 2 ^ 63 bytes
 pub text-fits : (ws : List ℕ) → listVerdict ws ≡ Fine → EachUnder (2 ^ 32) ws → length (rulesText ws) < 2 ^ 63
@@ -48,7 +43,9 @@ text-fits ws e b =
     let few : n ≤ mostRules = omega (arith, g .few) in
     let first = line-length rulesWord oneTab (n ∷ []) (omega arith, tt) in
     let last = line-length endWord oneTab ((n + 1) ∷ []) (omega arith, tt) in
-    let rules = rules-length ws n few b in
+    let each : (i : ℕ) → i < n → length (ended (lineOf rulesFormat ws i)) ≤ 2 ^ 38 =
+    λ i h. rule-length ws i (omega arith) b in
+    let rules = records-size (lineOf rulesFormat ws) (2 ^ 38) n each n (omega arith) in
     let top : List ℕ = ended (firstLine rulesFormat n) in
     let lines : List ℕ = unlines (ruleLines rulesFormat ws n) in
     let front = length-append top lines in

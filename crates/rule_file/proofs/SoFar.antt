@@ -13,15 +13,16 @@ use borrow.Author.Tests.{leb-true}
 use Rattle.text.specs.Words.{oneTab}
 use Rattle.text.specs.Line.{readLine, printLine, ended, EachUnder}
 use Rattle.text.specs.Text.{unlines}
+use Rattle.text.specs.EndLines.{recordLines}
 use Rattle.text.proofs.Below.{below-append}
 use Rattle.text.proofs.Lines.{Line, line-exact, none-some, made}
 use Rattle.text.proofs.Texts.{unlines-more}
-use Rattle.text.proofs.Files.{one-value}
+use Rattle.text.proofs.Files.{one-value, lines-more}
 use Rattle.rule_file.specs.ListText.{Format, partAt, State, start, within, over, onFirst, onRule}
-use Rattle.rule_file.specs.ListText.{firstLine, ruleLine, ruleLines, listText}
+use Rattle.rule_file.specs.ListText.{firstLine, ruleLine, lineOf, ruleLines, listText}
 use Rattle.rule_file.proofs.Parts.{one-more, part-within, at-append, at-last}
 use Rattle.rule_file.proofs.Formats.{Sound, ListOf}
-use Rattle.rule_file.proofs.Writing.{lines-more, lines-append}
+use Rattle.rule_file.proofs.Writing.{lines-append}
 
 module _ (F : Format) (holds : List ℕ → Bool) where
   -- a text that led to n rules in all, i of them read, with the words ws
@@ -53,7 +54,7 @@ module _ {F : Format} {holds : List ℕ → Bool} (s : Sound F holds) where
   pub first-leads :
       (l t : List ℕ) (st : State) (o : Option (List ℕ)) → readLine (F .listWord) oneTab l ≡ o → t ≡ [] →
       onFirst F o ≡ some st → SaysSoFar F holds st (t ++ ended l)
-  unfolding unlines ruleLines
+  unfolding unlines recordLines
   first-leads l t st none e empty h = none-some h
   first-leads l t st (some v) e empty h =
       let m = made (leb (getD v 0 0) (F .most)) h in
@@ -86,7 +87,7 @@ module _ {F : Format} {holds : List ℕ → Bool} (s : Sound F holds) where
     rule-lines =
         let line : l ≡ ruleLine F i this =
         f .text ∙ ap (printLine (F .ruleWord) (F .marks)) (s .values-exact i v r (f .count)) in
-        lines-more F (ws ++ this) i ∙
+        lines-more (lineOf F (ws ++ this)) i ∙
         rw (lines-append F ws i this (omega (arith, b .size)), rule-here, ← line)
 
     rule-text : t ++ ended l ≡ unlines (firstLine F n ∷ ruleLines F (ws ++ this) (i + 1))

@@ -13,9 +13,9 @@
 --   listFrom st s c    what reading the text s from the cursor c on comes to, from the state st on
 --   listIn s           what reading the whole text comes to: the words of its rules, or 9 or 10
 --   firstLine n, ruleLine i r    the first line; the line of rule i with the words r
---   ruleLines ws i     the lines of the rules below i
+--   lineOf ws i, ruleLines ws i    the line of rule i of the list ws; those of the rules below i
 --   listText n ws      the text of a list of n rules
-use Prim.Native.Nat.{ℕ, zero, suc, _+_, _*_}
+use Prim.Native.Nat.{ℕ, _+_, _*_}
 use mathlib.Core.Bool.{Bool, true, cond}
 use mathlib.Core.List.{List, [], _∷_, _++_}
 use mathlib.Core.Option.{Option, none, some}
@@ -26,7 +26,7 @@ use Rattle.text.specs.Words.{endWord, oneTab}
 use Rattle.text.specs.Line.{readLine, printLine}
 use Rattle.text.specs.Text.{split, unlines, Reading, readAll}
 use Rattle.text.specs.Onward.{readOn}
-use Rattle.text.specs.EndLines.{onEnd, fileLines}
+use Rattle.text.specs.EndLines.{onEnd, recordLines, fileLines}
 
 pub record Format : Type 0 where
   pub listWord : List ℕ
@@ -79,9 +79,11 @@ module _ (F : Format) where
   abbrev pub ruleLine : ℕ → List ℕ → List ℕ
   ruleLine i r = printLine (F .ruleWord) (F .marks) (F .valuesOf i r)
 
-  unfoldable pub ruleLines : List ℕ → ℕ → List (List ℕ)
-  ruleLines ws zero = []
-  ruleLines ws (suc i) = ruleLines ws i ++ (ruleLine i (partAt (F .width) ws i) ∷ [])
+  abbrev pub lineOf : List ℕ → ℕ → List ℕ
+  lineOf ws i = ruleLine i (partAt (F .width) ws i)
+
+  abbrev pub ruleLines : List ℕ → ℕ → List (List ℕ)
+  ruleLines ws i = recordLines (lineOf ws) i
 
   unfoldable pub listText : ℕ → List ℕ → List ℕ
   listText n ws = unlines (fileLines (firstLine n) (ruleLines ws n) n)

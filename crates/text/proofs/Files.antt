@@ -1,11 +1,14 @@
 -- Files of a first line, lines of records and an end line: what is written reads back, and what reads well was led to
 -- line by line.
-use Prim.Native.Nat.{ℕ, _+_, _^_, _<_}
+use Prim.Native.Nat.{ℕ, zero, suc, _+_, _*_, _^_, _≤_, _<_}
+use native.Mathlib.Nat.{suc-mul}
+use native.Mathlib.Numerals.{add-one}
+use native.Mathlib.Omega.{arith}
 use mathlib.Core.Bool.{Bool, true, _&&_}
 use mathlib.Core.Option.{Option, none, some}
 use mathlib.Core.Path.{_≡_, refl, sym, ap, _∙_}
 use mathlib.Core.List.{List, [], _∷_, _++_, append-assoc, append-nil}
-use lib.ListN.{getD}
+use lib.ListN.{length, getD, length-append}
 use lib.Dec.{eqb}
 use borrow.Author.Tests.{eq-eqb, eqb-true}
 use Rattle.facts.specs.Lists.{tabulate}
@@ -15,11 +18,11 @@ use Rattle.text.specs.Words.{newline, endWord, oneTab}
 use Rattle.text.specs.Numbers.{isDigit}
 use Rattle.text.specs.Line.{readLine, printLine, ended}
 use Rattle.text.specs.Text.{Text, whole, split, unlines, good, run, readAll}
-use Rattle.text.specs.EndLines.{endLine, fileLines, onEnd}
+use Rattle.text.specs.EndLines.{endLine, recordLines, fileLines, onEnd}
 use Rattle.text.proofs.Lines.{Line, line-back, line-exact, none-some, made}
 use Rattle.text.proofs.Plain.{Plain, AllPlain, plain-of, all-plain-more, line-plain}
 use Rattle.text.proofs.Texts.{bytes, split-lines, split-exact, unlines-more}
-use Rattle.text.proofs.Runs.{Walk, walk-run, Led, led}
+use Rattle.text.proofs.Runs.{Walk, here, go, walk-more, walk-run, Led, led}
 
 -- ---- lines of one number
 
@@ -55,6 +58,45 @@ end-exact complete n past {st} l h = go (readLine endWord oneTab l) refl h
         let number = ap (λ (k : ℕ). printLine endWord oneTab (k ∷ [])) (eqb-true (getD v 0 0) n (b .1)) in
         (b .0, one-value endWord l v (line-exact endWord oneTab l v e) ∙ number, m .1)
 
+-- ---- the lines of records
+
+module _ (line : ℕ → List ℕ) where
+  -- the lines of the records below i + 1 are those below i and the line of record i
+  pub lines-more : (i : ℕ) → recordLines line (i + 1) ≡ recordLines line i ++ (line i ∷ [])
+  unfolding recordLines
+  lines-more i = rw add-one
+
+  -- no records have no text
+  pub text-none : unlines (recordLines line 0) ≡ []
+  unfolding recordLines unlines
+  text-none = refl
+
+  -- the text of the records below i, and the line of record i, are the text of those below i + 1
+  pub text-more : (i : ℕ) → unlines (recordLines line i) ++ ended (line i) ≡ unlines (recordLines line (i + 1))
+  text-more i = sym (unlines-more (recordLines line i) (line i)) ∙ ap unlines (sym (lines-more i))
+
+  records-plain : ((i : ℕ) → Plain (line i)) → (i : ℕ) → AllPlain (recordLines line i)
+  unfolding recordLines
+  records-plain p zero = tt
+  records-plain p (suc i) = all-plain-more (recordLines line i) (line i) (records-plain p i) (p i)
+
+  -- lines of at most so many bytes each, with their newlines, take no more than that together
+  pub records-size :
+      (most n : ℕ) → ((i : ℕ) → i < n → length (ended (line i)) ≤ most) → (i : ℕ) → i ≤ n →
+      length (unlines (recordLines line i)) ≤ i * most
+  unfolding recordLines unlines
+  records-size most n h zero b = omega arith
+  records-size most n h (suc i) b =
+      rw unlines-more
+      (rw length-append (omega (arith, suc-mul i most, h i b, records-size most n h i (omega arith))))
+
+-- records with the same lines have the same lines together
+pub lines-same :
+    (f g : ℕ → List ℕ) (i : ℕ) → ((j : ℕ) → j < i → f j ≡ g j) → recordLines f i ≡ recordLines g i
+unfolding recordLines
+lines-same f g zero h = refl
+lines-same f g (suc i) h = rw (lines-same f g i (λ j b. h j (omega arith)), h i (omega arith))
+
 -- ---- all lines
 
 module _ (first : List ℕ) (ls : List (List ℕ)) (n : ℕ) where
@@ -65,24 +107,33 @@ module _ (first : List ℕ) (ls : List (List ℕ)) (n : ℕ) where
       ap (λ (x : List ℕ). x ++ ended (endLine (n + 1))) (append-assoc first (newline ∷ []) (unlines ls)) ∙
       sym (unlines-more (first ∷ ls) (endLine (n + 1)))
 
-  -- no line of the file has a newline in it
-  pub file-plain : Plain first → AllPlain ls → AllPlain (fileLines first ls n)
-  file-plain p q = (
-    p,
-    all-plain-more ls (endLine (n + 1)) q
-        (line-plain endWord oneTab ((n + 1) ∷ []) (plain-of endWord refl) (plain-of oneTab refl)),
-  )
-
 module _ {S R : Type 0} (step : S → List ℕ → Option S) (finish : S → Option R) where
-  -- lines that lead to a state which takes no more read as what it holds
-  pub reads-as :
-      {st past : S} {ls : List (List ℕ)} {r : R} → AllPlain ls → Walk step finish st ls past → finish past ≡ some r →
-      readAll step finish st 0 (split (unlines ls)) ≡ good r
-  unfolding run
-  reads-as {st} {past} {ls} plain w e =
-      rw (split-lines ls plain)
-      (ap (λ (l : List (List ℕ)). run step finish st 0 l []) (sym (append-nil ls)) ∙ walk-run step finish 0 [] [] w ∙
-      rw e)
+  module _ {st : S} {first : List ℕ} (line : ℕ → List ℕ) (reached : ℕ → S) (n : ℕ) where
+    walk-records :
+        step st first ≡ some (reached 0) →
+        ((i : ℕ) → i < n → step (reached i) (line i) ≡ some (reached (i + 1))) → (i : ℕ) → i ≤ n →
+        Walk step finish st (first ∷ recordLines line i) (reached i)
+    unfolding recordLines
+    walk-records f g zero b = go f here
+    walk-records f g (suc i) b =
+        walk-more step finish (walk-records f g i (omega arith))
+        (g i b ∙ ap (λ (k : ℕ). some (reached k)) (add-one i))
+
+    -- a file whose lines lead from state to state, and past the end, reads as what the last state holds
+    pub file-back :
+        {past : S} {r : R} → Plain first → ((i : ℕ) → Plain (line i)) → step st first ≡ some (reached 0) →
+        ((i : ℕ) → i < n → step (reached i) (line i) ≡ some (reached (i + 1))) →
+        step (reached n) (endLine (n + 1)) ≡ some past → finish past ≡ some r →
+        readAll step finish st 0 (split (unlines (fileLines first (recordLines line n) n))) ≡ good r
+    unfolding run
+    file-back p q f g e h =
+        let ls : List (List ℕ) = fileLines first (recordLines line n) n in
+        let last = line-plain endWord oneTab ((n + 1) ∷ []) (plain-of endWord refl) (plain-of oneTab refl) in
+        let plain = all-plain-more (recordLines line n) (endLine (n + 1)) (records-plain line q n) last in
+        let walk = walk-more step finish (walk-records f g n (omega arith)) e in
+        rw (split-lines ls (p, plain))
+        (ap (λ (l : List (List ℕ)). run step finish st 0 l []) (sym (append-nil ls)) ∙
+        walk-run step finish 0 [] [] walk ∙ rw h)
 
   -- a text that reads well leads to a state that holds its result
   pub led-to :

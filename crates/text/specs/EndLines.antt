@@ -1,10 +1,12 @@
--- The end line of a file: `end` and the number of lines before it. Nothing stands after it. Definitions only.
+-- The lines of a file: a first line, one for each record, and the end line, which is `end` and the number of lines
+-- before it. Nothing stands after it. Definitions only.
+--   recordLines line i           the lines of the records below i, `line j` being that of record j
 --   fileLines first ls n         the lines of a file: the first, the n lines ls, and the end line
 --   endLine n                    the end line of a text with n lines before it
 --   onEnd complete n past o      what a line that was read makes of a state that waits for the end line: the state past
 --                                it, if what stands before the line is complete and its number is n
 --   endLineAt s c complete n     whether the text s ends as it should from the cursor c on: 9 or 10, or it is over
-use Prim.Native.Nat.{ℕ, _+_}
+use Prim.Native.Nat.{ℕ, zero, suc, _+_}
 use mathlib.Core.Bool.{Bool, cond, _&&_}
 use mathlib.Core.List.{List, [], _∷_, _++_}
 use mathlib.Core.Option.{Option, none, some}
@@ -22,6 +24,10 @@ use Rattle.text.specs.Cursors.{wrongAt, lineAt}
 
 abbrev pub endLine : ℕ → List ℕ
 endLine n = printLine endWord oneTab (n ∷ [])
+
+unfoldable pub recordLines : (ℕ → List ℕ) → ℕ → List (List ℕ)
+recordLines line zero = []
+recordLines line (suc i) = recordLines line i ++ (line i ∷ [])
 
 abbrev pub fileLines : List ℕ → List (List ℕ) → ℕ → List (List ℕ)
 fileLines first ls n = first ∷ (ls ++ (endLine (n + 1) ∷ []))

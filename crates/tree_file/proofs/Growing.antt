@@ -10,6 +10,7 @@ use borrow.Author.Tests.{lt-ltb, le-ltb}
 use Rattle.facts.proofs.Cases.{WithinOrOver, within-or-over, atMost, over}
 use Rattle.text.specs.Words.{cutWord, leafWord, fourTabs}
 use Rattle.text.specs.Line.{printLine}
+use Rattle.text.proofs.Files.{lines-same}
 use Rattle.trees.specs.Words.{nodeWords, leafMark, nodeWord, fieldOf, childOf, startOf, countOf, entries}
 use Rattle.trees.specs.Spelt.{leafCount, countsBelow, SpeltLeaf}
 use Rattle.tree_file.specs.TreeLines.{cutNumbers, leafNumbers, leafMarks, nodeLine, nodeLines}
@@ -114,10 +115,6 @@ module _ (ws es xs ys : List ℕ) (i : ℕ) (h : i * nodeWords + 2 < length ws) 
 pub lines-kept :
     (ws es xs ys : List ℕ) (i : ℕ) {n m : ℕ} → i * nodeWords ≤ length ws →
     ((j : ℕ) → j < i → SpeltAt n m ws es j) → nodeLines (ws ++ xs) (es ++ ys) i ≡ nodeLines ws es i
-unfolding nodeLines
-lines-kept ws es xs ys zero h each = refl
-lines-kept ws es xs ys (suc i) h each =
-    rw (
-      lines-kept ws es xs ys i (omega arith) (λ j l. each j (omega arith)),
-      line-kept ws es xs ys i (omega arith) (each i (omega arith)),
-    )
+lines-kept ws es xs ys i h each =
+    lines-same (nodeLine (ws ++ xs) (es ++ ys)) (nodeLine ws es) i
+    (λ j b. line-kept ws es xs ys j (omega arith) (each j b))

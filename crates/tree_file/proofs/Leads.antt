@@ -13,11 +13,12 @@ use Rattle.trees.proofs.LeafSpelling.{counts-first}
 use Rattle.text.specs.Words.{treeWord, cutWord, leafWord, threeTabs, fourTabs}
 use Rattle.text.specs.Line.{readLine, readCounted, printLine, ended, EachUnder}
 use Rattle.text.specs.Text.{unlines}
+use Rattle.text.specs.EndLines.{recordLines}
 use Rattle.text.proofs.Lines.{Line, line-exact, none-some, made}
 use Rattle.text.proofs.Counted.{countedMarks, counted-line}
 use Rattle.tree_file.specs.TreeText.{tree, State, start, within, over, countsFit, cutFits, leafFits}
 use Rattle.tree_file.specs.TreeText.{onFirst, onCut, onLeaf, onNode}
-use Rattle.tree_file.specs.TreeLines.{firstLine, nodeLines, treeText, Spelling}
+use Rattle.tree_file.specs.TreeLines.{firstLine, treeText, Spelling}
 use Rattle.tree_file.proofs.SoFar.{NodesSoFar, so-far-more}
 use Rattle.tree_file.proofs.OneNode.{cut-node, leaf-node}
 
@@ -36,7 +37,7 @@ SaysSoFar (over (tree n ws es)) t = TextOf t n ws es
 pub first-leads :
     (l t : List ℕ) (st : State) (o : Option (List ℕ)) → readLine treeWord threeTabs l ≡ o → t ≡ [] →
     onFirst o ≡ some st → SaysSoFar st (t ++ ended l)
-unfolding tabulate nodeLines unlines
+unfolding tabulate recordLines unlines
 first-leads l t st none q e h = none-some h
 first-leads l t st (some v) q e h =
     let f = line-exact treeWord threeTabs l v q in

@@ -1,17 +1,18 @@
 -- The text of a tree that is spelt is far shorter than the places of a text can count. The bounds are crude.
 --   nodeMost      more bytes than a node's line takes
-use Prim.Native.Nat.{ℕ, zero, suc, _+_, _*_, _≤_, _<_, _^_}
+use Prim.Native.Nat.{ℕ, _+_, _≤_, _<_, _^_}
 use native.Mathlib.Omega.{arith}
 use mathlib.Core.List.{List, [], _∷_}
 use lib.ListN.{length, length-append}
 use Rattle.facts.proofs.Cases.{WithinOrOver, within-or-over, atMost, over}
 use Rattle.trees.specs.Words.{leafMark, nodeCount, fieldOf, countOf}
 use Rattle.text.specs.Words.{treeWord, cutWord, leafWord, endWord, oneTab, threeTabs, fourTabs}
-use Rattle.text.specs.Line.{EachUnder}
+use Rattle.text.specs.Line.{ended, EachUnder}
 use Rattle.text.specs.Text.{unlines}
 use Rattle.text.specs.EndLines.{endLine}
 use Rattle.text.proofs.Sizes.{line-size}
 use Rattle.text.proofs.Texts.{unlines-more}
+use Rattle.text.proofs.Files.{records-size}
 use Rattle.tree_file.specs.TreeLines.{cutNumbers, leafNumbers, leafMarks, nodeLine, nodeLines, firstLine}
 use Rattle.tree_file.specs.TreeLines.{treeText, Spelling}
 use Rattle.tree_file.proofs.Growing.{cut-line, leaf-line}
@@ -39,14 +40,6 @@ module _ {n : ℕ} {ws es : List ℕ} (g : Spelling n ws es) (b : EachUnder (2 ^
       go (over l) =
           rw (cut-line ws es i l) (omega (arith, line-size cutWord fourTabs (cutNumbers ws i) (cut-below g b i h)))
 
-  -- the lines of the first i nodes take no more than so many bytes each
-  nodes-size : (i : ℕ) → i ≤ nodeCount ws → length (unlines (nodeLines ws es i)) ≤ i * nodeMost
-  unfolding nodeLines unlines
-  nodes-size zero h = omega arith
-  nodes-size (suc i) h =
-      rw (unlines-more (nodeLines ws es i) (nodeLine ws es i))
-      (simp length-append (omega (arith, nodes-size i (omega arith), node-size i (omega arith))))
-
   -- the text of a tree that is spelt, the words of its nodes being of 32 bits, has fewer than 2 ^ 63 bytes
   pub text-fits : length (treeText n ws es) < 2 ^ 63
   unfolding treeText unlines
@@ -56,6 +49,8 @@ module _ {n : ℕ} {ws es : List ℕ} (g : Spelling n ws es) (b : EachUnder (2 ^
       line-size treeWord threeTabs (n ∷ m ∷ length es ∷ [])
       (omega (arith, g .few), (omega (arith, few-nodes g), (omega (arith, sizes-of g .short-pool), tt))) in
       let end = line-size endWord oneTab ((m + 1) ∷ []) (omega (arith, few-nodes g), tt) in
-      let nodes = nodes-size m (omega arith) in
+      let each : (i : ℕ) → i < m → length (ended (nodeLine ws es i)) ≤ nodeMost = λ i h.
+      simp length-append (omega (arith, node-size i h)) in
+      let nodes = records-size (nodeLine ws es) nodeMost m each m (omega arith) in
       rw (unlines-more (firstLine n m (length es) ∷ nodeLines ws es m) (endLine (m + 1)))
       (simp length-append (omega (arith, first, end, nodes, few-nodes g)))

@@ -1,9 +1,7 @@
 -- The round trips: what is written reads back, what reads well is what would be written, and a file that is cut is
 -- refused.
-use Prim.Native.Nat.{ℕ, zero, suc, _≤_, _^_}
-use native.Mathlib.Omega.{arith}
+use Prim.Native.Nat.{ℕ, _^_}
 use native.Mathlib.Nat.{zero-add}
-use native.Mathlib.Numerals.{add-one}
 use mathlib.Core.Path.{_≡_, refl, sym, _∙_}
 use mathlib.Core.Option.{none, some}
 use mathlib.Core.List.{List, [], _∷_, _++_}
@@ -14,13 +12,12 @@ use Rattle.text.specs.Words.{treeWord, cutWord, leafWord, threeTabs, fourTabs}
 use Rattle.text.specs.Line.{EachUnder}
 use Rattle.text.specs.Text.{split, linesOf, good, refused}
 use Rattle.text.proofs.Lines.{none-some}
-use Rattle.text.proofs.Plain.{Plain, AllPlain, plain-of, all-plain-more, line-plain}
-use Rattle.text.proofs.Runs.{Walk, walk-more}
-use Rattle.text.proofs.Files.{file-plain, reads-as}
+use Rattle.text.proofs.Plain.{Plain, plain-of, line-plain}
+use Rattle.text.proofs.Files.{file-back}
 use Rattle.text.proofs.Cut.{cut}
 use Rattle.facts.proofs.Cases.{WithinOrOver, within-or-over, atMost, over as above}
 use Rattle.tree_file.specs.TreeText.{Tree, tree, State, start, within, over, step, finish, treeIn}
-use Rattle.tree_file.specs.TreeLines.{cutNumbers, leafNumbers, leafMarks, nodeLine, nodeLines, firstLine}
+use Rattle.tree_file.specs.TreeLines.{cutNumbers, leafNumbers, leafMarks, nodeLine}
 use Rattle.tree_file.specs.TreeLines.{treeText, Spelling}
 use Rattle.tree_file.proofs.Growing.{cut-line, leaf-line}
 use Rattle.tree_file.proofs.Spelling.{tabs-plain}
@@ -42,24 +39,9 @@ node-plain ws es i = go (within-or-over leafMark (fieldOf ws i))
         rw (cut-line ws es i l)
         (line-plain cutWord fourTabs (cutNumbers ws i) (plain-of cutWord refl) (plain-of fourTabs refl))
 
-nodes-plain : (ws es : List ℕ) (i : ℕ) → AllPlain (nodeLines ws es i)
-unfolding nodeLines
-nodes-plain ws es zero = tt
-nodes-plain ws es (suc i) =
-    all-plain-more (nodeLines ws es i) (nodeLine ws es i) (nodes-plain ws es i) (node-plain ws es i)
-
 -- ---- what is written reads back
 
 module _ {n : ℕ} {ws es : List ℕ} (g : Spelling n ws es) (b : EachUnder (2 ^ 32) ws) where
-  -- the first line and the lines of the first i nodes lead to the state after them
-  walked :
-      (i : ℕ) → i ≤ nodeCount ws →
-      Walk step finish start (firstLine n (nodeCount ws) (length es) ∷ nodeLines ws es i) (after g b i)
-  unfolding nodeLines
-  walked zero h = Walk.go (first-step g b) Walk.here
-  walked (suc i) h =
-      walk-more step finish (walked i (omega arith)) (rw add-one at (node-step g b i (omega arith)))
-
   -- the text of a tree that is spelt, the words of its nodes being of 32 bits, says that tree
   pub read-of-written : treeIn (treeText n ws es) ≡ good (tree n ws es)
   unfolding treeIn treeText finish
@@ -67,8 +49,8 @@ module _ {n : ℕ} {ws es : List ℕ} (g : Spelling n ws es) (b : EachUnder (2 ^
       let m = nodeCount ws in
       let first = n ∷ m ∷ length es ∷ [] in
       let plain = line-plain treeWord threeTabs first (plain-of treeWord refl) (plain-of threeTabs refl) in
-      reads-as step finish (file-plain (firstLine n m (length es)) (nodeLines ws es m) m plain (nodes-plain ws es m))
-      (walk-more step finish (walked m (omega arith)) (end-step g b)) refl
+      file-back step finish (nodeLine ws es) (after g b) m plain (node-plain ws es) (first-step g b) (node-step g b)
+      (end-step g b) refl
 
 -- ---- what reads well
 

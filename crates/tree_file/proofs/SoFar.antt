@@ -3,7 +3,6 @@
 --                                 entries, which are spelt so far
 use Prim.Native.Nat.{ℕ, _+_, _*_, _≤_, _<_, _^_}
 use native.Mathlib.Omega.{arith}
-use native.Mathlib.Numerals.{add-one}
 use mathlib.Core.Bool.{true}
 use mathlib.Core.Path.{_≡_, sym, ap, _∙_}
 use mathlib.Core.List.{List, [], _∷_, _++_}
@@ -19,6 +18,7 @@ use Rattle.text.specs.Line.{ended, EachUnder}
 use Rattle.text.specs.Text.{unlines}
 use Rattle.text.proofs.Below.{below-append}
 use Rattle.text.proofs.Texts.{unlines-more}
+use Rattle.text.proofs.Files.{lines-more}
 use Rattle.tree_file.specs.TreeText.{countsFit}
 use Rattle.tree_file.specs.TreeLines.{firstLine, nodeLine, nodeLines}
 use Rattle.tree_file.proofs.Growing.{SpeltAt, counts-kept, spelt-kept, lines-kept}
@@ -47,12 +47,6 @@ few-of n m p e =
 
 -- ---- one node more
 
--- the lines of the first i nodes, and the next
-pub lines-more :
-    (ws es : List ℕ) (i : ℕ) → nodeLines ws es (i + 1) ≡ nodeLines ws es i ++ (nodeLine ws es i ∷ [])
-unfolding nodeLines
-lines-more ws es i = rw add-one
-
 pub record NodesSoFar (n m p i : ℕ) (ws es t : List ℕ) : Type 0 where
   pub text : t ≡ unlines (firstLine n m p ∷ nodeLines ws es i)
   pub size : length ws ≡ i * nodeWords
@@ -79,7 +73,7 @@ module _ {n m p i : ℕ} {ws es xs ys t l : List ℕ} (w : NodesSoFar n m p i ws
   text-more =
       let kept = lines-kept ws es xs ys i (omega (arith, w .size)) (w .each) in
       let grown : nodeLines ws es i ++ (l ∷ []) ≡ nodeLines (ws ++ xs) (es ++ ys) (i + 1) =
-      rw (lines-more (ws ++ xs) (es ++ ys) i, kept, ← x .line) in
+      rw (lines-more (nodeLine (ws ++ xs) (es ++ ys)) i, kept, ← x .line) in
       ap (λ (u : List ℕ). u ++ ended l) (w .text) ∙
       sym (unlines-more (firstLine n m p ∷ nodeLines ws es i) l) ∙
       ap (λ (ls : List (List ℕ)). unlines (firstLine n m p ∷ ls)) grown

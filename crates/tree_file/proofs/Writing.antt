@@ -1,20 +1,18 @@
 -- The text of a tree, part by part, as it is put.
 use Prim.Native.Nat.{ℕ, _+_, _-_, _≤_, _<_}
 use native.Mathlib.Omega.{arith}
-use mathlib.Core.Path.{_≡_, refl, sym, ap}
+use mathlib.Core.Path.{_≡_, sym, ap}
 use mathlib.Core.List.{List, [], _∷_, _++_, append-assoc, append-nil}
 use lib.ListN.{length, take, drop, length-take, length-drop}
 use Rattle.text.specs.Words.{newline, tab, cutWord, leafWord, twoTabs, fourTabs}
 use Rattle.text.specs.Line.{printFields, printLine, ended}
 use Rattle.text.specs.Text.{unlines}
 use Rattle.text.specs.EndLines.{endLine}
-use Rattle.text.proofs.Texts.{unlines-more}
 use Rattle.text.proofs.Files.{file-parts}
 use Rattle.trees.specs.Words.{leafMark, nodeCount, fieldOf, startOf, countOf}
 use Rattle.trees.proofs.Spelling.{part-is-entries}
 use Rattle.tree_file.specs.TreeLines.{cutNumbers, leafMarks, nodeLine, nodeLines, firstLine, treeText}
 use Rattle.tree_file.proofs.Growing.{cut-line, leaf-line}
-use Rattle.tree_file.proofs.SoFar.{lines-more}
 
 -- ---- a leaf line
 
@@ -47,17 +45,6 @@ module _ (ws es : List ℕ) (i : ℕ) where
       rw (size, part) (ap (λ (u : List ℕ). u ++ (newline ∷ [])) (sym (leaf-line ws es i l)))
 
 -- ---- the whole text
-
--- before the first node no line is put
-pub text-none : (ws es : List ℕ) → unlines (nodeLines ws es 0) ≡ []
-unfolding nodeLines unlines
-text-none ws es = refl
-
--- one node more
-pub text-more :
-    (ws es : List ℕ) (i : ℕ) →
-    unlines (nodeLines ws es i) ++ (nodeLine ws es i ++ (newline ∷ [])) ≡ unlines (nodeLines ws es (i + 1))
-text-more ws es i = rw (lines-more ws es i) (sym (unlines-more (nodeLines ws es i) (nodeLine ws es i)))
 
 -- the first line, those of all nodes, and the end line make the text
 pub text-parts :

@@ -6,10 +6,10 @@
 --   firstLine n m p            the first line
 --   treeText n nodes pool      the text of a tree for n rules
 --   Spelling n nodes pool      what a tree is written for: n is at most the most rules, the sizes hold, it is spelt
-use Prim.Native.Nat.{ℕ, zero, suc, _≤_}
+use Prim.Native.Nat.{ℕ, _≤_}
 use mathlib.Core.Bool.{cond}
 use mathlib.Core.Path.{_≡_}
-use mathlib.Core.List.{List, [], _∷_, _++_}
+use mathlib.Core.List.{List, [], _∷_}
 use lib.ListN.{length, replicate}
 use Rattle.refusals.specs.declared.Verdict.the-variants.{Fine}
 use Rattle.rules.specs.Words.{mostRules}
@@ -18,7 +18,7 @@ use Rattle.trees.specs.Spelt.{isCut, Spelt}
 use Rattle.text.specs.Words.{tab, treeWord, cutWord, leafWord, threeTabs, fourTabs}
 use Rattle.text.specs.Line.{printLine}
 use Rattle.text.specs.Text.{unlines}
-use Rattle.text.specs.EndLines.{fileLines}
+use Rattle.text.specs.EndLines.{recordLines, fileLines}
 
 abbrev pub cutNumbers : List ℕ → ℕ → List ℕ
 cutNumbers nodes i = i ∷ fieldOf nodes i ∷ valueOf nodes i ∷ childOf nodes i ∷ []
@@ -34,9 +34,8 @@ nodeLine nodes pool i =
     cond (isCut nodes i) (printLine cutWord fourTabs (cutNumbers nodes i))
     (printLine leafWord (leafMarks (countOf nodes i)) (leafNumbers nodes pool i))
 
-unfoldable pub nodeLines : List ℕ → List ℕ → ℕ → List (List ℕ)
-nodeLines nodes pool zero = []
-nodeLines nodes pool (suc i) = nodeLines nodes pool i ++ (nodeLine nodes pool i ∷ [])
+abbrev pub nodeLines : List ℕ → List ℕ → ℕ → List (List ℕ)
+nodeLines nodes pool i = recordLines (nodeLine nodes pool) i
 
 abbrev pub firstLine : ℕ → ℕ → ℕ → List ℕ
 firstLine n m p = printLine treeWord threeTabs (n ∷ m ∷ p ∷ [])

@@ -5,12 +5,13 @@ use mathlib.Core.Path.{_≡_, refl, sym, _∙_}
 use lib.ListN.{length}
 use Rattle.text.specs.Text.{unlines}
 use Rattle.text.specs.Puts.{Put}
+use Rattle.text.proofs.Files.{text-none, text-more}
 use Rattle.text.proofs.Puts.{put-none, put-then, put-same, put-length}
 use Rattle.rules.specs.Words.{ruleWords, mostRules, ruleCount}
 use Rattle.rules.proofs.Lists.{fine-iff-good}
 use Rattle.rule_file.specs.ListText.{ruleLines}
 use Rattle.rule_file.specs.RuleText.{rulesFormat}
-use Rattle.rule_file.proofs.Writing.{text-none, text-more, text-parts}
+use Rattle.rule_file.proofs.Writing.{text-parts}
 use Rattle.rule_file.proofs.write.write_pass.Statement.{statement}
 use Rattle.rule_file.proofs.write.write_pass.Tie as tie
 
@@ -25,7 +26,7 @@ put-first-requires : tie.Need-put-first-requires Inv-loop μ-loop
 put-first-requires c κs = omega (arith, fine-iff-good _ .0 (c .before .before .before .pre) .few)
 
 loop-holds : tie.Need-loop-holds Inv-loop μ-loop
-loop-holds c = (put-same (sym (text-none _ _)) (put-none _ _ (omega arith)), refl, omega arith)
+loop-holds c = (put-same (sym (text-none _)) (put-none _ _ (omega arith)), refl, omega arith)
 
 -- the rules are few
 few-rules :
@@ -50,7 +51,7 @@ loop-again c =
     let p = c .before .before in
     let l = p .before .before .before in
     let more = put-then (omega arith) (l .loop .inv .0) (p .put-rule .ensures) in
-    (put-same (text-more _ _ _) more, refl, omega arith)
+    (put-same (text-more _ _) more, refl, omega arith)
 
 cast-put-end : tie.Need-cast-put-end Inv-loop μ-loop
 cast-put-end c = omega (arith, few-rules (c .before .before))

@@ -4,11 +4,12 @@ use native.Mathlib.Omega.{arith}
 use mathlib.Core.Path.{_≡_, refl, sym, _∙_}
 use Rattle.text.specs.Text.{unlines}
 use Rattle.text.specs.Puts.{Put}
+use Rattle.text.proofs.Files.{text-none, text-more}
 use Rattle.text.proofs.Puts.{put-none, put-then, put-same, put-length}
 use Rattle.trees.specs.Words.{nodeCount}
 use Rattle.tree_file.specs.TreeLines.{nodeLines}
 use Rattle.tree_file.proofs.Spelling.{few-nodes, sizes-of, writable-of}
-use Rattle.tree_file.proofs.Writing.{text-none, text-more, text-parts}
+use Rattle.tree_file.proofs.Writing.{text-parts}
 use Rattle.tree_file.proofs.write.write_pass.Statement.{statement}
 use Rattle.tree_file.proofs.write.write_pass.Tie as tie
 
@@ -32,7 +33,7 @@ put-first-requires : tie.Need-put-first-requires Inv-loop μ-loop
 put-first-requires c κs = tt
 
 loop-holds : tie.Need-loop-holds Inv-loop μ-loop
-loop-holds c = (put-same (sym (text-none _ _)) (put-none _ _ (omega arith)), refl, omega arith)
+loop-holds c = (put-same (sym (text-none _)) (put-none _ _ (omega arith)), refl, omega arith)
 
 put-node-requires : tie.Need-put-node-requires Inv-loop μ-loop
 put-node-requires c κs =
@@ -48,7 +49,7 @@ loop-less c = omega arith
 loop-again : tie.Need-loop-again Inv-loop μ-loop
 loop-again c =
     let turn = c .before .before .before .before in (
-      put-same (text-more _ _ _)
+      put-same (text-more _ _)
           (put-then (omega arith) (turn .before .loop .inv .0) (c .before .before .put-node .ensures)),
       turn .before .loop .inv .1,
       omega arith,

@@ -44,15 +44,13 @@ loop-less : tie.Need-loop-less Inv-loop μ-loop
 loop-less c = omega arith
 
 loop-again : tie.Need-loop-again Inv-loop μ-loop
-loop-again c = (
-  put-same
-      (fields-more _ _ _ (c .before .before .before .before .before .before .before .loop-test .taken)
-      (c .before .before .before .before .before .before .if1 .left))
-      (put-then (omega arith) (c .before .before .before .before .before .before .before .before .loop .inv .0)
-      (c .before .before .put-behind .ensures)),
-  omega arith,
-  omega arith,
-)
+loop-again c =
+    let behind = c .before .before in
+    let value = behind .before .before .before .before in
+    let turn = value .before in
+    let more = fields-more _ _ _ (turn .loop-test .taken) (value .if1 .left) in
+    let put = put-then (omega arith) (turn .before .loop .inv .0) (behind .put-behind .ensures) in
+    (put-same more put, omega arith, omega arith)
 
 same-length-2 : tie.Need-same-length-2 Inv-loop μ-loop
 same-length-2 c = put-length (c .before .loop .inv .0)

@@ -1,9 +1,11 @@
 -- `text::cursor::Cursor::digits` meets its contract: at each turn the digits before it make the value. Assumes nothing.
-use Prim.Native.Nat.{_-_, _≤_}
+use Prim.Native.Nat.{_-_}
 use native.Mathlib.Omega.{arith}
-use mathlib.Core.Path.{sym, _∙_}
+use mathlib.Core.Bool.{true}
+use mathlib.Core.Path.{_≡_, sym, _∙_}
 use lib.ListN.{length, getD}
 use borrow.Author.Tests.{not-true, not-false}
+use Rattle.text.specs.Numbers.{isDigit}
 use Rattle.text.specs.Cursors.{digitsAt}
 use Rattle.text.proofs.Digit.{digit-range}
 use Rattle.text.proofs.Scanning.{NumberLeft, digits-first, digits-step, digits-over, digits-stop, digits-spent}
@@ -20,9 +22,9 @@ abbrev μ-loop : tie.MeasureT-loop
 -- past the test, the byte is a digit
 digit :
     (c : tie.Else1 Inv-loop μ-loop) →
-    let s = c .before .before .before .before .before .before .args in
-    let b = getD (s .text .now) (c .before .before .before .before .loop .at) 0 in (48 ≤ b) × (b ≤ 57)
-digit c = digit-range _ (sym (c .before .is-digit .ensures) ∙ not-false _ (c .if1 .left))
+    let loop = c .before .before .before .before in
+    isDigit (getD (loop .before .before .args .text .now) (loop .loop .at) 0) ≡ true
+digit c = sym (c .before .is-digit .ensures) ∙ not-false _ (c .if1 .left)
 
 loop-holds : tie.Need-loop-holds Inv-loop μ-loop
 loop-holds c = digits-first _ _ (c .before .pre)
@@ -34,27 +36,28 @@ is-digit-requires : tie.Need-is-digit-requires Inv-loop μ-loop
 is-digit-requires c κs = tt
 
 cast-t12 : tie.Need-cast-t12 Inv-loop μ-loop
-cast-t12 c = omega (arith, c .before .before .before .before .loop .inv .small)
+cast-t12 c = let turn = c .before .before .before in omega (arith, turn .before .loop .inv .small)
 
 returns : tie.Need-returns Inv-loop μ-loop
 unfolding digitsAt
 returns c =
-    number-answer _ _
-    (digits-stop (c .before .before .before .before .loop .inv) (c .before .before .before .loop-test .taken)
-    (sym (c .before .is-digit .ensures) ∙ not-true _ (c .if1 .taken)))
-    (c .before .before .before .before .loop .inv .within)
+    let turn = c .before .before .before in
+    let here = turn .before .loop .inv in
+    let no-digit = sym (c .before .is-digit .ensures) ∙ not-true _ (c .if1 .taken) in
+    number-answer _ _ (digits-stop here (turn .loop-test .taken) no-digit) (here .within)
 
 mul-value : tie.Need-mul-value Inv-loop μ-loop
-mul-value c = omega (arith, c .before .before .before .before .loop .inv .small)
+mul-value c = let turn = c .before .before .before in omega (arith, turn .before .loop .inv .small)
 
 sub-value : tie.Need-sub-value Inv-loop μ-loop
-sub-value c = omega (arith, digit c)
+sub-value c = omega (arith, digit-range _ (digit c))
 
 cast-value : tie.Need-cast-value Inv-loop μ-loop
-cast-value c = omega (arith, digit c)
+cast-value c = omega (arith, digit-range _ (digit c))
 
 add-value : tie.Need-add-value Inv-loop μ-loop
-add-value c = omega (arith, digit c, c .before .before .before .before .loop .inv .small)
+add-value c =
+    let turn = c .before .before .before in omega (arith, digit-range _ (digit c), turn .before .loop .inv .small)
 
 wrong-requires : tie.Need-wrong-requires Inv-loop μ-loop
 wrong-requires c κs = tt
@@ -62,11 +65,9 @@ wrong-requires c κs = tt
 returns-2 : tie.Need-returns-2 Inv-loop μ-loop
 unfolding digitsAt
 returns-2 c =
+    let turn = c .before .before .before .before .before in
     number-refusal _ _
-    (digits-over (c .before .before .before .before .before .before .loop .inv)
-    (c .before .before .before .before .before .loop-test .taken)
-    (sym (c .before .before .before .is-digit .ensures) ∙ not-false _ (c .before .before .if1 .left))
-    (c .before .if2 .taken))
+    (digits-over (turn .before .loop .inv) (turn .loop-test .taken) (digit (c .before .before)) (c .before .if2 .taken))
     (c .wrong .ensures)
 
 add-at : tie.Need-add-at Inv-loop μ-loop
@@ -77,9 +78,8 @@ loop-less c = omega arith
 
 loop-again : tie.Need-loop-again Inv-loop μ-loop
 loop-again c =
-    digits-step (c .before .before .before .before .before .loop .inv)
-    (c .before .before .before .before .loop-test .taken)
-    (sym (c .before .before .is-digit .ensures) ∙ not-false _ (c .before .if1 .left)) (c .if2 .left)
+    let turn = c .before .before .before .before in
+    digits-step (turn .before .loop .inv) (turn .loop-test .taken) (digit (c .before)) (c .if2 .left)
 
 cast-t17 : tie.Need-cast-t17 Inv-loop μ-loop
 cast-t17 c = omega (arith, c .before .loop .inv .small)

@@ -35,19 +35,18 @@ no-fields-requires c κs = tt
 returns : tie.Need-returns Inv-loop μ-loop
 unfolding marksAt
 returns c =
-    let no =
-    behind-refused _ _ _
-    (sym (c .before .before .before .before .number-behind .ensures) ∙ c .before .before .why .given .1) in
-    fields-refusal _ _
-    (marks-bad (c .before .before .before .before .before .before .before .loop .inv)
-    (c .before .before .before .before .before .before .loop-test .taken) (no .0))
-    (no .1) (c .no-fields .ensures)
+    let read = c .before .before .before .before in
+    let turn = read .before .before in
+    let no = behind-refused _ _ _ (sym (read .number-behind .ensures) ∙ c .before .before .why .given .1) in
+    fields-refusal _ _ (marks-bad (turn .before .loop .inv) (turn .loop-test .taken) (no .0)) (no .1)
+    (c .no-fields .ensures)
 
 enum-known-v : tie.Need-enum-known-v Inv-loop μ-loop
 enum-known-v c = search needs
 
 slice-aggregate-store : tie.Need-slice-aggregate-store Inv-loop μ-loop
-slice-aggregate-store c = sym (marks-size (c .before .before .before .before .before .before .before .loop .inv))
+slice-aggregate-store c =
+    let read = c .before .before .before .before in sym (marks-size (read .before .before .before .loop .inv))
 
 store-requires : tie.Need-store-requires Inv-loop μ-loop
 store-requires c κs = tt
@@ -60,12 +59,11 @@ loop-less c = omega arith
 
 loop-again : tie.Need-loop-again Inv-loop μ-loop
 loop-again c =
-    marks-step (c .before .before .before .before .before .before .before .before .before .loop .inv)
-    (c .before .before .before .before .before .before .before .before .loop-test .taken)
-    (behind-value _ _ _
-    (sym (c .before .before .before .before .before .before .number-behind .ensures) ∙
-    c .before .before .before .before .v .given .1))
-    (c .before .store .ensures)
+    let value = c .before .before .before .before in
+    let read = value .before .before in
+    let turn = read .before .before in
+    marks-step (turn .before .loop .inv) (turn .loop-test .taken)
+    (behind-value _ _ _ (sym (read .number-behind .ensures) ∙ value .v .given .1)) (c .before .store .ensures)
 
 returns-2 : tie.Need-returns-2 Inv-loop μ-loop
 unfolding marksAt

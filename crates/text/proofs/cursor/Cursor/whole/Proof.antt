@@ -32,28 +32,26 @@ enum-known-d c = search needs
 
 returns : tie.Need-returns
 returns c =
-    let no =
-    fields-refused _ _ _ _ (c .before .before .before .before .before .fields .ensures)
-    (c .before .before .said .given .1) in
+    let read = c .before .before .before .before .before in
+    let no = fields-refused _ _ _ _ (read .fields .ensures) (c .before .before .said .given .1) in
     c .no-fields .ensures ∙ whole-no-fields _ _ _ _ (no .0) (no .1)
 
 returns-2 : tie.Need-returns-2
 returns-2 c =
-    let more =
-    end-refused _ _ (sym (c .before .before .before .before .end .ensures) ∙ c .before .before .why .given .1) in
+    let behind = c .before .before .before .before in
+    let said = behind .before .before in
+    let read = said .before .before .before in
+    let more = end-refused _ _ (sym (behind .end .ensures) ∙ c .before .before .why .given .1) in
     c .no-fields2 .ensures ∙
-    whole-more _ _ _ _
-    (fields-next _ _ _ _ (c .before .before .before .before .before .before .before .before .before .fields .ensures)
-    (c .before .before .before .before .before .before .said2 .given .1))
-    (more .0) (more .1)
+    whole-more _ _ _ _ (fields-next _ _ _ _ (read .fields .ensures) (said .said2 .given .1)) (more .0) (more .1)
 
 returns-3 : tie.Need-returns-3
 returns-3 c =
-    let none-left = end-next _ _ (sym (c .before .before .before .end .ensures) ∙ c .before .d .given .1) in
-    whole-fields _ _ _ _
-    (fields-next _ _ _ _ (c .before .before .before .before .before .before .before .before .fields .ensures)
-    (c .before .before .before .before .before .said2 .given .1))
-    (none-left .0) (none-left .1)
+    let behind = c .before .before .before in
+    let said = behind .before .before in
+    let read = said .before .before .before in
+    let none = end-next _ _ (sym (behind .end .ensures) ∙ c .before .d .given .1) in
+    whole-fields _ _ _ _ (fields-next _ _ _ _ (read .fields .ensures) (said .said2 .given .1)) (none .0) (none .1)
 
 pub whole-spec : {M : Type 1} → statement M
 whole-spec =

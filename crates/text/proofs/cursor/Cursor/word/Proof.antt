@@ -23,8 +23,8 @@ wrong-requires c κs = tt
 returns : tie.Need-returns Inv-loop μ-loop
 unfolding wordAt
 returns c =
-    word-refusal _ _
-    (word-short (c .before .before .before .loop .inv) (c .before .before .loop-test .taken) (c .before .if1 .taken))
+    let turn = c .before .before in
+    word-refusal _ _ (word-short (turn .before .loop .inv) (turn .loop-test .taken) (c .before .if1 .taken))
     (c .wrong .ensures)
 
 shared-slice-read-if2 : tie.Need-shared-slice-read-if2 Inv-loop μ-loop
@@ -39,10 +39,9 @@ wrong-requires-2 c κs = tt
 returns-2 : tie.Need-returns-2 Inv-loop μ-loop
 unfolding wordAt
 returns-2 c =
+    let room = c .before .before .before .before in let turn = room .before in
     word-refusal _ _
-    (word-other (c .before .before .before .before .before .before .loop .inv)
-    (c .before .before .before .before .before .loop-test .taken) (c .before .before .before .before .if1 .left)
-    (c .before .if2 .taken))
+    (word-other (turn .before .loop .inv) (turn .loop-test .taken) (room .if1 .left) (c .before .if2 .taken))
     (c .wrong2 .ensures)
 
 add-at : tie.Need-add-at Inv-loop μ-loop
@@ -56,8 +55,8 @@ loop-less c = omega arith
 
 loop-again : tie.Need-loop-again Inv-loop μ-loop
 loop-again c =
-    word-step (c .before .before .before .before .before .loop .inv)
-    (c .before .before .before .before .loop-test .taken) (c .before .before .before .if1 .left) (c .if2 .left)
+    let room = c .before .before .before in let turn = room .before in
+    word-step (turn .before .loop .inv) (turn .loop-test .taken) (room .if1 .left) (c .if2 .left)
 
 returns-3 : tie.Need-returns-3 Inv-loop μ-loop
 unfolding wordAt

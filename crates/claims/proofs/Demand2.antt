@@ -11,9 +11,10 @@ use Rattle.text.specs.Text.{good}
 use Rattle.rule_file.proofs.RoundTrips.{read-of-written as rules-back, written-of-read as rules-exact, good-of-read}
 use Rattle.rule_file.proofs.RoundTrips.{below-of-read as rules-below, cut-refused as rules-cut}
 use Rattle.tree_file.specs.TreeText.{Tree, tree, treeIn}
+use Rattle.tree_file.specs.TreeLines.{textOf, Fits}
 use Rattle.tree_file.proofs.RoundTrips.{read-of-written as tree-back, written-of-read as tree-exact}
 use Rattle.tree_file.proofs.RoundTrips.{spelling-of-read, below-of-read, cut-refused as tree-cut}
-use Rattle.claims.specs.Demand2.{Matching, ByTree, RuleFile, treeWritten, TreeFits, TreeFile}
+use Rattle.claims.specs.Demand2.{Matching, ByTree, RuleFile, TreeFile}
 
 pub matching-claim : Matching
 matching-claim =
@@ -43,11 +44,11 @@ rule-file-claim =
       cut = rules-cut;
     }
 
-tree-exact-claim : (s : List ℕ) (t : Tree) → treeIn s ≡ good t → (treeWritten t ≡ s) × TreeFits t
+tree-exact-claim : (s : List ℕ) (t : Tree) → treeIn s ≡ good t → (textOf t ≡ s) × Fits t
 tree-exact-claim s (tree n ns es) e =
     (tree-exact s n ns es e, (spelling-of-read s n ns es e, below-of-read s n ns es e))
 
-tree-back-claim : (t : Tree) → TreeFits t → treeIn (treeWritten t) ≡ good t
+tree-back-claim : (t : Tree) → Fits t → treeIn (textOf t) ≡ good t
 tree-back-claim (tree n ns es) f = tree-back (f .0) (f .1)
 
 pub tree-file-claim : TreeFile

@@ -19,8 +19,8 @@ use Rattle.trees.specs.declared.search.TreeListed.{TreeListed}
 use Rattle.text.specs.Line.{EachUnder}
 use Rattle.text.specs.Text as text
 use Rattle.rule_file.specs.RuleText.{rulesIn, rulesText}
-use Rattle.tree_file.specs.TreeText.{Tree, tree, treeIn}
-use Rattle.tree_file.specs.TreeLines.{treeText, Spelling}
+use Rattle.tree_file.specs.TreeText.{treeIn}
+use Rattle.tree_file.specs.TreeLines.{textOf, Fits}
 
 -- a number is listed exactly where it is a rule's and the rule matches; the list rises, so each stands there once, and
 -- its first is the lowest that matches; a good rule matches exactly the headers in its box
@@ -61,11 +61,5 @@ pub record File {W : Type 0} (read : List ℕ → text.Reading W) (write : W →
 abbrev pub RuleFile : Type 0
 RuleFile = File rulesIn rulesText (λ ws. (rules.Good.listVerdict ws ≡ Fine) × EachUnder (2 ^ 32) ws)
 
-abbrev pub treeWritten : Tree → List ℕ
-treeWritten (tree n ns es) = treeText n ns es
-
-abbrev pub TreeFits : Tree → Type 0
-TreeFits (tree n ns es) = Spelling n ns es × EachUnder (2 ^ 32) ns
-
 abbrev pub TreeFile : Type 0
-TreeFile = File treeIn treeWritten TreeFits
+TreeFile = File treeIn textOf Fits

@@ -37,12 +37,12 @@ module _ (ws es : List ℕ) (i : ℕ) where
   pub leaf-with-newline :
       (s k : ℕ) → leafMark ≤ fieldOf ws i → s ≡ startOf ws i → k ≡ countOf ws i → s + k ≤ length es →
       printLine leafWord (leafMarks (length (take (s + k - s) (drop s es))))
-      (i ∷ countOf ws i ∷ take (s + k - s) (drop s es)) ++ (newline ∷ []) ≡ nodeLine ws es i ++ (newline ∷ [])
+      (i ∷ k ∷ take (s + k - s) (drop s es)) ++ (newline ∷ []) ≡ nodeLine ws es i ++ (newline ∷ [])
   leaf-with-newline s k l p q h =
       let size : length (take (s + k - s) (drop s es)) ≡ countOf ws i =
       simp (length-take, length-drop) (omega arith) in
       let part = part-is-entries ws es i s k p q in
-      rw (size, part) (ap (λ (u : List ℕ). u ++ (newline ∷ [])) (sym (leaf-line ws es i l)))
+      rw (size, part, q) (ap (λ (u : List ℕ). u ++ (newline ∷ [])) (sym (leaf-line ws es i l)))
 
 -- ---- the whole text
 

@@ -1,5 +1,4 @@
 // Writing a tree file, line by line.
-use lent::wide;
 use refusals::Refusal;
 use refusals::Verdict;
 use rules::words::MOST_RULES;
@@ -19,11 +18,9 @@ use text::words::TREE;
 use text::words::TWO_TABS;
 use trees::spelt::size_verdict;
 use trees::spelt::spelt_verdict;
-use trees::words::CHILD;
-use trees::words::FIRST;
-use trees::words::LEAF_MARK;
 use trees::words::NODE_WORDS;
-use trees::words::VALUE;
+use trees::words::Node;
+use trees::words::node_at;
 ghost use mathlib.Core.Path.{_≡_};
 ghost use mathlib.Core.List.{[], _∷_};
 ghost use lib.ListN.{length};
@@ -99,21 +96,24 @@ fn put_first(text: &mut [u8], rules: u32, nodes: u32, pool: u32) -> usize
     put_line(text, 0, &TREE, &THREE_TABS, &values)
 }
 
-// The line of node `i`. A leaf's start and count stand where a cut has its value and its right child.
+// The line of node `i`.
 fn put_node(text: &mut [u8], at: usize, nodes: &[u32], pool: &[u32], i: usize) -> usize
     requires { ⌜ Writable (now nodes) (now pool) i ⌝ }
     ensures { λ r. ⌜ Put (now (text .entry)) at (ended (nodeLine (now (nodes .entry)) (now (pool .entry)) i))
         (now (text .exit)) r ⌝ }
 {
-    let first = nodes[i * NODE_WORDS + FIRST];
-    let second = nodes[i * NODE_WORDS + VALUE];
-    let third = nodes[i * NODE_WORDS + CHILD];
-    if wide(first) < LEAF_MARK {
-        return put_cut(text, at, i as u32, first, second, third);
+    match node_at(nodes, i) {
+        Node::Missing => at,
+        Node::Leaf { start, count } => {
+            let end = start + count;
+            put_leaf(text, at, i as u32, count as u32, &pool[start..end])
+        }
+        Node::Cut {
+            field,
+            value,
+            child,
+        } => put_cut(text, at, i as u32, field as u32, value, child as u32),
     }
-    let start = wide(second);
-    let end = start + wide(third);
-    put_leaf(text, at, i as u32, third, &pool[start..end])
 }
 
 // The line of a cut.

@@ -1,95 +1,63 @@
--- `tree_file::write::put_node` meets its contract: the first word says which line it is. Assumes nothing.
-use Prim.Native.Nat.{_+_, _≤_}
+-- `tree_file::write::put_node` meets its contract: what stands at the node says which line it is. Assumes nothing.
+use Prim.Native.Nat.{_+_, _*_, _≤_}
 use native.Mathlib.Omega.{arith}
 use lib.ListN.{length}
+use denote.Ref.{now}
+use mathlib.Core.Path.{_≡_, sym, _∙_}
 use borrow.Author.Needs.{needs}
 use Rattle.text.proofs.Puts.{put-same}
-use Rattle.trees.specs.Words.{leafMark, fieldOf}
+use Rattle.trees.specs.Words.{nodeWords}
+use Rattle.trees.proofs.Nodes.{IsLeaf, IsCut, missing-means, leaf-is, cut-is}
 use Rattle.tree_file.proofs.Writing.{cut-with-newline, leaf-with-newline}
 use Rattle.tree_file.proofs.write.put_node.Statement.{statement}
 use Rattle.tree_file.proofs.write.put_node.Tie as tie
 
--- a first word that is no field is a leaf's, whose entries lie in the pool
+-- the leaf that stands there, and that its entries lie in the pool
 leaf :
-    (c : tie.After-wide3) →
-    let s = c .before .before .before .before .before .before .before .before .before .before .args in
-    (leafMark ≤ fieldOf (s .nodes .now) (s .i)) × (c .before .wide2 .result + c .wide3 .result ≤ length (s .pool .now))
-leaf c =
-    let w = c .before .before in
-    let s = w .before .before .before .before .before .before .before .before in
-    let mark : leafMark ≤ fieldOf (s .args .nodes .now) (s .args .i) =
-    omega (arith, w .before .wide .ensures, w .if1 .left) in
-    (mark, omega (arith, s .pre .part mark, c .before .wide2 .ensures, c .wide3 .ensures))
+    (c : tie.After-known-told) →
+    let s = c .before .before .before .before .before .before .before .args in
+    IsLeaf (now (s .nodes)) (s .i) (c .before .start .given .0 .0) (c .before .start .given .0 .1 .0)
+leaf c = leaf-is _ _ (sym (c .before .before .before .node-at .ensures) ∙ c .before .start .given .1)
 
-mul-first : tie.Need-mul-first
-mul-first c = search needs
+within :
+    (c : tie.After-known-told) →
+    let s = c .before .before .before .before .before .before .before .args in
+    c .before .start .given .0 .0 + c .before .start .given .0 .1 .0 ≤ length (now (s .pool))
+within c =
+    let s = c .before .before .before .before .before .before .before in
+    omega (arith, s .pre .part (leaf c .mark), leaf c .start, leaf c .count)
 
-add-first : tie.Need-add-first
-add-first c = search needs
+-- the cut that stands there
+cut :
+    (c : tie.After-known-told2) →
+    let s = c .before .before .before .before .before .before .before .args in
+    IsCut (now (s .nodes)) (s .i) (c .before .field .given .0 .0) (c .before .field .given .0 .1 .0)
+    (c .before .field .given .0 .1 .1 .0)
+cut c = cut-is _ _ (sym (c .before .before .before .node-at .ensures) ∙ c .before .field .given .1)
 
-mul-first-2 : tie.Need-mul-first-2
-mul-first-2 c = search needs
+node-at-requires : tie.Need-node-at-requires
+node-at-requires c κs = search needs
 
-shared-slice-read-first : tie.Need-shared-slice-read-first
-shared-slice-read-first c = search needs
+enum-told : tie.Need-enum-told
+enum-told c = search needs
 
-mul-second : tie.Need-mul-second
-mul-second c = search needs
-
-add-second : tie.Need-add-second
-add-second c = search needs
-
-mul-second-2 : tie.Need-mul-second-2
-mul-second-2 c = search needs
-
-shared-slice-read-second : tie.Need-shared-slice-read-second
-shared-slice-read-second c = search needs
-
-mul-third : tie.Need-mul-third
-mul-third c = search needs
-
-add-third : tie.Need-add-third
-add-third c = search needs
-
-mul-third-2 : tie.Need-mul-third-2
-mul-third-2 c = search needs
-
-shared-slice-read-third : tie.Need-shared-slice-read-third
-shared-slice-read-third c = search needs
-
-wide-requires : tie.Need-wide-requires
-wide-requires c κs = search needs
-
-cast-put-cut : tie.Need-cast-put-cut
-cast-put-cut c = search needs
-
-put-cut-requires : tie.Need-put-cut-requires
-put-cut-requires c κs = search needs
-
-same-length : tie.Need-same-length
-same-length c = search needs
-
-returns : tie.Need-returns
-returns c =
-    let w = c .before .before .before .before in
-    put-same (cut-with-newline _ _ _ (omega (arith, w .before .wide .ensures, w .if1 .taken)))
-    (c .before .before .put-cut .ensures)
-
-wide-requires-2 : tie.Need-wide-requires-2
-wide-requires-2 c κs = search needs
-
-wide-requires-3 : tie.Need-wide-requires-3
-wide-requires-3 c κs = search needs
+enum-known-start : tie.Need-enum-known-start
+enum-known-start c = search needs
 
 add-end : tie.Need-add-end
-add-end c =
-    omega (arith, leaf c .1, c .wide3 .ensures, c .before .wide2 .ensures)
+add-end c = omega (arith, within c)
 
 cast-put-leaf : tie.Need-cast-put-leaf
 cast-put-leaf c = search needs
 
+cast-put-leaf-2 : tie.Need-cast-put-leaf-2
+cast-put-leaf-2 c =
+    let k = c .before .before .before .before .before .before in
+    let s = k .before .before .args in
+    omega (arith, leaf (c .before) .count, leaf (c .before) .there, k .shared-slice-known .given (s .i * nodeWords + 2))
+
 mul-put-leaf : tie.Need-mul-put-leaf
-mul-put-leaf c = omega (arith, leaf (c .before) .1)
+mul-put-leaf c = omega (arith, within (c .before))
 
 sub-put-leaf : tie.Need-sub-put-leaf
 sub-put-leaf c = search needs
@@ -98,50 +66,75 @@ part-put-leaf-start : tie.Need-part-put-leaf-start
 part-put-leaf-start c = search needs
 
 part-put-leaf-end : tie.Need-part-put-leaf-end
-part-put-leaf-end c = leaf (c .before) .1
+part-put-leaf-end c = within (c .before)
 
 put-leaf-requires : tie.Need-put-leaf-requires
 put-leaf-requires c κs = search needs
 
-same-length-2 : tie.Need-same-length-2
-same-length-2 c = search needs
+enum-known-field : tie.Need-enum-known-field
+enum-known-field c = search needs
+
+cast-put-cut : tie.Need-cast-put-cut
+cast-put-cut c = search needs
+
+cast-put-cut-2 : tie.Need-cast-put-cut-2
+cast-put-cut-2 c = omega (arith, cut (c .before) .field, cut (c .before) .below-mark)
+
+cast-put-cut-3 : tie.Need-cast-put-cut-3
+cast-put-cut-3 c =
+    let k = c .before .before .before .before .before .before in
+    let s = k .before .before .args in
+    omega (arith, cut (c .before) .child, cut (c .before) .there, k .shared-slice-known .given (s .i * nodeWords + 2))
+
+put-cut-requires : tie.Need-put-cut-requires
+put-cut-requires c κs = search needs
+
+returns : tie.Need-returns
+returns c =
+    let n = c .before .before in
+    let s = n .before .before .before .before in
+    absurd (omega (arith, missing-means _ _ (sym (n .node-at .ensures) ∙ c .enum-told .given .1), s .pre .there))
+
+same-length : tie.Need-same-length
+same-length c = search needs
 
 returns-2 : tie.Need-returns-2
 returns-2 c =
-    let w = c .before .before .before .before .before in
-    put-same
-    (leaf-with-newline _ _ _ _ _ (leaf w .0) (w .before .wide2 .ensures) (w .wide3 .ensures) (leaf w .1))
+    let told = c .before .before .before .before .before in
+    put-same (leaf-with-newline _ _ _ _ _ (leaf told .mark) (leaf told .start) (leaf told .count) (within told))
     (c .before .before .put-leaf .ensures)
+
+same-length-2 : tie.Need-same-length-2
+same-length-2 c = search needs
+
+returns-3 : tie.Need-returns-3
+returns-3 c =
+    let told = c .before .before .before .before in
+    put-same (rw (cut told .field, cut told .value, cut told .child) (cut-with-newline _ _ _ (cut told .below-mark)))
+    (c .before .before .put-cut .ensures)
 
 pub put-node-spec : {M : Type 1} → statement M
 put-node-spec =
     tie.close
     (tie.spec
-    mul-first
-    add-first
-    mul-first-2
-    shared-slice-read-first
-    mul-second
-    add-second
-    mul-second-2
-    shared-slice-read-second
-    mul-third
-    add-third
-    mul-third-2
-    shared-slice-read-third
-    wide-requires
-    cast-put-cut
-    put-cut-requires
-    same-length
-    returns
-    wide-requires-2
-    wide-requires-3
+    node-at-requires
+    enum-told
+    enum-known-start
     add-end
     cast-put-leaf
+    cast-put-leaf-2
     mul-put-leaf
     sub-put-leaf
     part-put-leaf-start
     part-put-leaf-end
     put-leaf-requires
+    enum-known-field
+    cast-put-cut
+    cast-put-cut-2
+    cast-put-cut-3
+    put-cut-requires
+    returns
+    same-length
+    returns-2
     same-length-2
-    returns-2)
+    returns-3)

@@ -16,26 +16,26 @@ enum-known-form c = search needs
 
 word-of-requires : tie.Need-word-of-requires
 word-of-requires c κs =
-    let asked = c .before .before .before .before .before .pre in
-    (asked .0, prefix-words (asked .1) (c .before .form2 .given .1) .0)
+    let form = c .before in let asked = form .before .before .before .before .pre in
+    (asked .0, prefix-words (asked .1) (form .form2 .given .1) .0)
 
 word-of-requires-2 : tie.Need-word-of-requires-2
 word-of-requires-2 c κs =
-    let asked = c .before .before .before .before .before .before .pre in
-    (asked .0, prefix-words (asked .1) (c .before .before .form2 .given .1) .1)
+    let form = c .before .before in let asked = form .before .before .before .before .pre in
+    (asked .0, prefix-words (asked .1) (form .form2 .given .1) .1)
 
 enum-known-form-2 : tie.Need-enum-known-form-2
 enum-known-form-2 c = search needs
 
 word-of-requires-3 : tie.Need-word-of-requires-3
 word-of-requires-3 c κs =
-    let asked = c .before .before .before .before .before .pre in
-    (asked .0, range-words (asked .1) (c .before .form3 .given .1) .0)
+    let form = c .before in let asked = form .before .before .before .before .pre in
+    (asked .0, range-words (asked .1) (form .form3 .given .1) .0)
 
 word-of-requires-4 : tie.Need-word-of-requires-4
 word-of-requires-4 c κs =
-    let asked = c .before .before .before .before .before .before .pre in
-    (asked .0, range-words (asked .1) (c .before .before .form3 .given .1) .1)
+    let form = c .before .before in let asked = form .before .before .before .before .pre in
+    (asked .0, range-words (asked .1) (form .form3 .given .1) .1)
 
 returns : tie.Need-returns
 returns c =

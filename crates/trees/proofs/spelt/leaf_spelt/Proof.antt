@@ -16,8 +16,8 @@ sum-is :
     let s = c .before .before .before .before .before .args in
     startOf (s .nodes .now) (s .i) ≡ countsBelow (s .nodes .now) (s .i)
 sum-is c =
-    sym (c .before .before .node-word .ensures .is) ∙ c .if1 .left ∙
-    c .before .before .before .before .before .pre .1
+    let first = c .before .before in
+    sym (first .node-word .ensures .is) ∙ c .if1 .left ∙ first .before .before .before .pre .1
 
 node-word-requires : tie.Need-node-word-requires
 node-word-requires c κs = search needs
@@ -27,8 +27,8 @@ node-word-requires-2 c κs = search needs
 
 returns : tie.Need-returns
 returns c =
-    let s = c .before .before .before .before .before in
-    start-wrong _ _ _ _ (λ e. c .if1 .taken (c .before .before .node-word .ensures .is ∙ e ∙ sym (s .pre .1)))
+    let first = c .before .before in let start = first .before .before .before in
+    start-wrong _ _ _ _ (λ e. c .if1 .taken (first .node-word .ensures .is ∙ e ∙ sym (start .pre .1)))
 
 returns-2 : tie.Need-returns-2
 returns-2 c =
@@ -39,10 +39,10 @@ add-if3 c = omega arith
 
 returns-3 : tie.Need-returns-3
 returns-3 c =
-    let start = c .before .before .before .before .node-word .ensures .is in
-    let count = c .before .before .before .node-word2 .ensures .is in
-    end-wrong _ _ _ _ (sum-is (c .before .before)) (rw count at (c .before .if2 .left))
-    (rw (start, count) at (c .if3 .taken))
+    let sum = c .before .before in
+    let start = sum .before .before .node-word .ensures .is in
+    let count = sum .before .node-word2 .ensures .is in
+    end-wrong _ _ _ _ (sum-is sum) (rw count at (c .before .if2 .left)) (rw (start, count) at (c .if3 .taken))
 
 add-end : tie.Need-add-end
 add-end c = omega arith
@@ -64,11 +64,11 @@ all-under-requires c κs = search needs
 
 returns-4 : tie.Need-returns-4
 returns-4 c =
-    let w = c .before .before .before .before in
-    let start = w .before .before .node-word .ensures .is in
-    let count = w .before .node-word2 .ensures .is in
-    entries-decide _ _ _ _ (sum-is w) (rw count at (c .before .before .before .if2 .left))
-    (rw (start, count) at (c .before .before .if3 .left))
+    let end = c .before .before in
+    let sum = end .before .before in
+    let start = sum .before .before .node-word .ensures .is in
+    let count = sum .before .node-word2 .ensures .is in
+    entries-decide _ _ _ _ (sum-is sum) (rw count at (end .before .if2 .left)) (rw (start, count) at (end .if3 .left))
     (c .all-under .ensures ∙ ap (allUnder _) (part-is-entries _ _ _ _ _ start count))
 
 pub leaf-spelt-spec : {M : Type 1} → statement M

@@ -28,24 +28,25 @@ Inv-loop rules nodes pool count sum₀ node₀ sum node =
 abbrev μ-loop : tie.MeasureT-loop
 μ-loop rules nodes pool count sum₀ node₀ sum node = nodeCount nodes - node
 
+-- the loop, from where the count of the node is read
+abbrev turn : tie.After-leaf-count Inv-loop μ-loop → tie.At-loop Inv-loop μ-loop
+turn c = c .before .before .before .before .before
+
 -- a node that is not refused is fine
 fine :
     (c : tie.After-leaf-count Inv-loop μ-loop) →
-    let h = c .before .before .before .before .before in
-    let s = h .before .before .before .args in
+    let h = turn c in let s = h .before .before .before .args in
     nodeVerdict (s .rules) (s .nodes .now) (s .pool .now) (h .loop .node) ≡ Fine
 fine c = sym (c .before .before .before .node-verdict .ensures) ∙ c .before .enum-told .given .1
 
 -- with the count of this node the sum is that below the next, and within the pool
 goes-on :
     (c : tie.After-leaf-count Inv-loop μ-loop) →
-    let h = c .before .before .before .before .before in
-    let s = h .before .before .before .args in
+    let h = turn c in let s = h .before .before .before .args in
     (h .loop .sum + c .leaf-count .result ≡ countsBelow (s .nodes .now) (h .loop .node + 1)) ×
     (h .loop .sum + c .leaf-count .result ≤ length (s .pool .now))
 goes-on c =
-    let h = c .before .before .before .before .before in
-    sum-goes-on _ _ _ _ (fine c) (h .loop .inv .2) (h .loop .inv .3) (c .leaf-count .ensures)
+    let here = turn c .loop .inv in sum-goes-on _ _ _ _ (fine c) (here .2) (here .3) (c .leaf-count .ensures)
 
 -- after the last node the counts decide
 decided :
@@ -72,10 +73,10 @@ enum-known-why c = search needs
 
 returns : tie.Need-returns Inv-loop μ-loop
 returns c =
-    let h = c .before .before .before .before .before in
+    let verdict = c .before .before .before in
     nodes-refuse _ _ _
-    (head-stop (h .loop .inv .4) (omega arith)
-    (sym (c .before .before .before .node-verdict .ensures) ∙ c .before .why .given .1))
+    (head-stop (verdict .before .before .loop .inv .4) (omega arith)
+    (sym (verdict .node-verdict .ensures) ∙ c .before .why .given .1))
 
 enum-told : tie.Need-enum-told Inv-loop μ-loop
 enum-told c = search needs
@@ -94,8 +95,7 @@ loop-less c = omega arith
 
 loop-again : tie.Need-loop-again Inv-loop μ-loop
 loop-again c =
-    let h = c .before .before .before .before .before in
-    (refl, omega arith, goes-on c .0, goes-on c .1, head-step (h .loop .inv .4) (omega arith) (fine c))
+    (refl, omega arith, goes-on c .0, goes-on c .1, head-step (turn c .loop .inv .4) (omega arith) (fine c))
 
 returns-2 : tie.Need-returns-2 Inv-loop μ-loop
 returns-2 c =

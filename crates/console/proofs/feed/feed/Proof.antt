@@ -16,6 +16,10 @@ Inv-loop rules nodes pool accepted piece out₀ gathering₀ filled₀ taken₀ 
 abbrev μ-loop : tie.MeasureT-loop
 μ-loop rules nodes pool accepted piece out₀ gathering₀ filled₀ taken₀ out gathering filled taken = length piece - taken
 
+-- the turn of the loop, from its last step
+abbrev turn : tie.After-step Inv-loop μ-loop → tie.In-loop Inv-loop μ-loop
+turn c = c .before .before .before .before .before .before .before .before .before
+
 loop-holds : tie.Need-loop-holds Inv-loop μ-loop
 loop-holds c = reached-first _ _ _ _
 
@@ -23,14 +27,10 @@ shared-slice-read-byte : tie.Need-shared-slice-read-byte Inv-loop μ-loop
 shared-slice-read-byte c = omega (arith, c .before .loop-test .taken)
 
 sub-said : tie.Need-sub-said Inv-loop μ-loop
-sub-said c =
-    let q = c .before .before .loop .inv in
-    omega (arith, q .fits, reached-length _ _ _ _ q)
+sub-said c = let here = c .before .before .loop .inv in omega (arith, here .fits, reached-length _ _ _ _ here)
 
 part-said-start : tie.Need-part-said-start Inv-loop μ-loop
-part-said-start c =
-    let q = c .before .before .loop .inv in
-    omega (arith, q .fits, reached-length _ _ _ _ q)
+part-said-start c = sub-said c
 
 part-said-end : tie.Need-part-said-end Inv-loop μ-loop
 part-said-end c = omega arith
@@ -43,47 +43,47 @@ enum-told c = search needs
 
 same-length : tie.Need-same-length Inv-loop μ-loop
 same-length c =
-    let s = c .before .before .before .before in
-    let t = s .before .before .before in
-    short-length _ _ _ _ (t .before .loop .inv) (t .loop-test .taken) (s .said .ensures) (c .enum-told .given .1)
+    let reply = c .before .before .before .before in
+    let turn = reply .before .before .before in
+    short-length _ _ _ _ (turn .before .loop .inv) (turn .loop-test .taken) (reply .said .ensures)
+    (c .enum-told .given .1)
 
 returns : tie.Need-returns Inv-loop μ-loop
 returns c =
-    let s = c .before .before .before .before in
-    let t = s .before .before .before in
-    let q = t .before .loop .inv in
-    let size = short-length _ _ _ _ q (t .loop-test .taken) (s .said .ensures) (c .enum-told .given .1) in (
-      reached-short _ _ _ _ q (t .loop-test .taken) (s .said .ensures) (c .enum-told .given .1),
-      (q .most, omega (arith, q .fits, size)),
-    )
+    let reply = c .before .before .before .before in
+    let turn = reply .before .before .before in
+    let here = turn .before .loop .inv in
+    let short = reached-short _ _ _ _ here (turn .loop-test .taken) (reply .said .ensures) (c .enum-told .given .1) in
+    (short, (here .most, omega (arith, here .fits, same-length c)))
 
 enum-known-bytes : tie.Need-enum-known-bytes Inv-loop μ-loop
 enum-known-bytes c = search needs
 
 add-filled : tie.Need-add-filled Inv-loop μ-loop
 add-filled c =
-    let s = c .before .before .before .before .before in
-    let t = s .before .before .before in
-    let q = t .before .loop .inv in
-    let next = reached-step _ _ _ _ q (t .loop-test .taken) (s .said .ensures) (c .before .bytes .given .1) in
-    omega (arith, next .fits, t .before .before .before .before .before .before .before .good)
+    let reply = c .before .before .before .before .before in
+    let turn = reply .before .before .before in
+    let here = turn .before .loop .inv in
+    let next = reached-step _ _ _ _ here (turn .loop-test .taken) (reply .said .ensures) (c .before .bytes .given .1) in
+    let start = turn .before .before .before .before .before .before .before in omega (arith, next .fits, start .good)
 
 step-requires : tie.Need-step-requires Inv-loop μ-loop
 step-requires c κs = tt
 
 add-taken : tie.Need-add-taken Inv-loop μ-loop
-add-taken c = omega (arith, c .before .before .before .before .before .before .before .before .before .loop-test .taken)
+add-taken c = omega (arith, turn c .loop-test .taken)
 
 loop-less : tie.Need-loop-less Inv-loop μ-loop
-loop-less c = omega (arith, c .before .before .before .before .before .before .before .before .before .loop-test .taken)
+loop-less c = omega (arith, turn c .loop-test .taken)
 
 loop-again : tie.Need-loop-again Inv-loop μ-loop
 loop-again c =
-    let s = c .before .before .before .before .before .before in
-    let t = s .before .before .before in
-    let q = t .before .loop .inv in
-    let next = reached-step _ _ _ _ q (t .loop-test .taken) (s .said .ensures) (c .before .before .bytes .given .1) in
-    rw (c .step .ensures) next
+    let bytes = c .before .before in
+    let reply = bytes .before .before .before .before in
+    let turn = reply .before .before .before in
+    let here = turn .before .loop .inv in
+    rw (c .step .ensures)
+    (reached-step _ _ _ _ here (turn .loop-test .taken) (reply .said .ensures) (bytes .bytes .given .1))
 
 same-length-2 : tie.Need-same-length-2 Inv-loop μ-loop
 same-length-2 c = reached-length _ _ _ _ (c .before .loop .inv)

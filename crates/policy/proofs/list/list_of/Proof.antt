@@ -5,6 +5,10 @@ use Rattle.policy.proofs.Listing.{list-refused, list-found, list-within
 use Rattle.policy.proofs.list.list_of.Statement.{statement}
 use Rattle.policy.proofs.list.list_of.Tie as tie
 
+-- the call of the reader, from where its answer is looked at
+abbrev read : tie.After-slice-known2 → tie.After-rules-read
+read c = c .before .before
+
 rules-read-requires : tie.Need-rules-read-requires
 rules-read-requires c κs = search needs
 
@@ -16,23 +20,19 @@ enum-known-count c = search needs
 
 mul-t9 : tie.Need-mul-t9
 mul-t9 c =
-    let w = c .before .before .before .before .before in
-    let fits = list-within _ (w .rules-read .ensures) (c .before .count .given .1) in
-    omega (arith, fits)
+    omega (arith, list-within _ (read (c .before .before .before) .rules-read .ensures) (c .before .count .given .1))
 
 same-length : tie.Need-same-length
 same-length c = search needs
 
 returns : tie.Need-returns
-returns c = list-refused _ (c .before .before .before .before .before .rules-read .ensures) (c .before .why .given .1)
+returns c = list-refused _ (read (c .before .before .before) .rules-read .ensures) (c .before .why .given .1)
 
 same-length-2 : tie.Need-same-length-2
 same-length-2 c = search needs
 
 returns-2 : tie.Need-returns-2
-returns-2 c =
-    let w = c .before .before .before .before .before in
-    list-found _ (w .rules-read .ensures) (c .before .count .given .1)
+returns-2 c = list-found _ (read (c .before .before .before) .rules-read .ensures) (c .before .count .given .1)
 
 pub list-of-spec : {M : Type 1} → statement M
 list-of-spec =

@@ -10,7 +10,6 @@ use lib.Dec.{leb}
 use borrow.Author.Tests.{leb-true, le-leb}
 use Rattle.facts.specs.Lists.{upFrom, keep, has, rises}
 use Rattle.facts.proofs.Bools.{both, join}
-use Rattle.facts.proofs.Cases.{below, same}
 use Rattle.facts.proofs.Members.{has-cons, has-first, has-tail, kept-iff, up-iff}
 
 -- a rising list's head is at least its bound, and its tail rises past the head

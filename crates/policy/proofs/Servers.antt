@@ -1,31 +1,24 @@
 -- Who serves: the tree check decides; and whoever serves answers as the list does.
 use Prim.Native.Nat.{ℕ, min, _≤_}
 use native.Mathlib.Omega.{arith}
-use mathlib.Core.Bool.{true, false}
-use mathlib.Core.Path.{_≡_, refl, sym, ap, subst, _∙_}
-use mathlib.Core.List.{List, [], _∷_}
-use mathlib.Core.Option.{Option}
+use mathlib.Core.Bool.{false}
+use mathlib.Core.Path.{_≡_, refl, sym, ap, _∙_}
+use mathlib.Core.List.{List, []}
 use lib.ListN.{length, take, length-take}
-use lib.Seq.{take-length}
-use Rattle.facts.proofs.Setting.{written-front}
 use Rattle.refusals.specs.declared.Refusal.{Refusal}
 use Rattle.refusals.specs.declared.Verdict.{Verdict}
 use Rattle.refusals.specs.declared.Verdict.the-variants as verdict
-use Rattle.refusals.specs.Order.{_then_}
-use Rattle.refusals.proofs.Order.{then-fine, then-refused, leaving-fine}
 use Rattle.refusals.proofs.Promises.{refused-by, fine-by}
 use Rattle.tree_check.specs.declared.check.TreeAnswer.{TreeAnswer}
 use Rattle.tree_check.specs.declared.check.TreeAnswer.the-variants as checked
 use Rattle.tree_check.specs.TreeCheck.{checkVerdict, TreeChecked}
 use Rattle.tree_check.specs.TreeCheck as check
-use Rattle.tree_file.specs.Reading.{readVerdict, nodesIn, poolIn}
 use Rattle.console.specs.Replies.{searchVerdict, searchList, answerTo}
 use Rattle.console.proofs.Agreeing.{same-answer}
 use Rattle.policy.specs.declared.tree.Taken.{Taken}
 use Rattle.policy.specs.declared.tree.Taken.the-variants.{Refused, Words}
 use Rattle.policy.specs.declared.serving.Serving.{Serving}
-use Rattle.policy.specs.Files.{treeOf}
-use Rattle.policy.specs.TakeTree.{paper, TreeTaken}
+use Rattle.policy.specs.TakeTree.{paper}
 use Rattle.policy.specs.WhoServes.{byTree, serving, servingOf}
 use Rattle.policy.specs.Output.{byList, answersBy}
 use Rattle.policy.proofs.Bytes.{take-within}

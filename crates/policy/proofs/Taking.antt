@@ -1,16 +1,15 @@
 -- The tree of the tree file is taken: what the reader of trees says, in words instead of nodes.
 use Prim.Native.Nat.{ℕ, _*_, _≤_}
 use native.Mathlib.Omega.{arith}
-use mathlib.Core.Path.{_≡_, refl, sym, ap, subst, _∙_}
+use mathlib.Core.Path.{_≡_, refl, ap, subst}
 use mathlib.Core.List.{List, [], _∷_}
 use mathlib.Core.Option.{Option, none, some}
 use lib.ListN.{length}
-use borrow.Author.Tests.{leb-true}
 use Rattle.refusals.specs.declared.Refusal.{Refusal}
 use Rattle.refusals.specs.declared.Refusal.the-variants.{FileNotRead}
 use Rattle.refusals.specs.declared.Verdict.the-variants as verdict
 use Rattle.refusals.specs.Paper.{success}
-use Rattle.refusals.proofs.Order.{refused-not-fine, fine-iff-holds, then-fine-iff, room-fine-iff}
+use Rattle.refusals.proofs.Order.{refused-not-fine, then-fine-iff, room-fine-iff}
 use Rattle.refusals.proofs.Promises.{refused-by, fine-by, said-by, writes-refused}
 use Rattle.refusals.proofs.Promises.{writes-fine, left-found, left-written}
 use Rattle.trees.specs.Words.{nodeWords, nodeCount}

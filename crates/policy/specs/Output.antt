@@ -7,7 +7,7 @@
 --                        refused list; else that of a refused tree, if it is, and then the replies to the input
 --   TreeServes rs f      the tree file f holds a tree that may serve the list rs
 use Prim.Native.Nat.{ℕ}
-use mathlib.Core.Bool.{true, false}
+use mathlib.Core.Bool.{false}
 use mathlib.Core.Path.{_≡_}
 use mathlib.Core.List.{List, [], _++_}
 use mathlib.Core.Option.{Option}

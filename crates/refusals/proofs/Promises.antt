@@ -11,8 +11,8 @@ use Rattle.refusals.specs.declared.Verdict.{Verdict}
 use Rattle.refusals.specs.declared.Verdict.the-variants.{Fine, Refused}
 use Rattle.refusals.specs.Paper.{Paper, refusal, success, onPaper}
 use Rattle.refusals.specs.Order.{_then_, _giving_, leaving}
-use Rattle.refusals.specs.Promises.{Says, Writes, Apart, Settles, WritesOnly}
-use Rattle.refusals.proofs.Order.{then-fine, then-refused}
+use Rattle.refusals.specs.Promises.{Says, Writes, Apart, WritesOnly}
+use Rattle.refusals.proofs.Order.{then-fine}
 use Rattle.refusals.proofs.Order.{giving-refused, giving-fine, leaving-refused, leaving-fine}
 use Rattle.refusals.proofs.Unique.{refusal-not-success}
 use Rattle.refusals.proofs.Giving.{success-giving, refusal-giving}

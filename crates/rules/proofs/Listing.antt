@@ -1,11 +1,11 @@
 -- The list of matches: what stands in it, that it rises, and what its head is.
-use Prim.Native.Nat.{ℕ, _+_, _≤_, _<_}
+use Prim.Native.Nat.{ℕ, _≤_, _<_}
 use native.Mathlib.Omega.{arith}
-use mathlib.Core.Bool.{Bool, true, false, false≢true}
-use mathlib.Core.Path.{_≡_, refl, sym, ap, _∙_}
+use mathlib.Core.Bool.{true, false, false≢true}
+use mathlib.Core.Path.{_≡_, refl}
 use mathlib.Core.Logic.{_↔_}
 use mathlib.Core.List.{List, [], _∷_}
-use Rattle.facts.specs.Lists.{upFrom, keep, has, rises}
+use Rattle.facts.specs.Lists.{upFrom, has, rises}
 use Rattle.facts.proofs.Bools.{fails}
 use Rattle.facts.proofs.Members.{has-first, kept-iff, up-iff}
 use Rattle.facts.proofs.Rising.{rises-first, rises-cons, rises-kept, rises-up, rises-low}

@@ -1,7 +1,7 @@
 -- The paper tells the answers apart, so each promise allows one result and one state of the lent words
 -- (`says-unique`, `writes-unique`).
 use Prim.Native.Nat.{ℕ}
-use mathlib.Core.Path.{_≡_, refl, sym, ap, _∙_}
+use mathlib.Core.Path.{_≡_, refl, sym, ap}
 use native.Mathlib.Omega.{arith}
 use Rattle.refusals.proofs.Unique.{on-paper-unique, refusal-not-success}
 use Rattle.refusals.specs.Promises.{Apart}

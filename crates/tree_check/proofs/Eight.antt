@@ -13,8 +13,8 @@ use Rattle.tree_check.specs.declared.preorder.Lack.{Lack}
 use Rattle.tree_check.specs.declared.preorder.Lack.the-variants.{Complete, Lacks}
 use Rattle.tree_check.specs.TreeCheck.{lackVerdict, checkVerdict}
 use Rattle.tree_check.specs.Lacks.{LacksFirst, LacksRule, Misleads}
-use Rattle.tree_check.proofs.Lacks.{complete-iff, LowestLack, lack-means}
-use Rattle.tree_check.proofs.FirstLack.{FirstLack, first-lack, complete-at}
+use Rattle.tree_check.proofs.Lacks.{complete-iff, lack-means}
+use Rattle.tree_check.proofs.FirstLack.{first-lack, complete-at}
 use Rattle.tree_check.proofs.OneLack.{lacks-first-unique}
 use Rattle.tree_check.proofs.Agreement.{witness, listed-of-right, agrees-of-complete}
 use Rattle.tree_check.proofs.Stages.{Reached, reached, lack-decides, formed, proper, reaches}

@@ -1,14 +1,12 @@
 -- A cut that is seen: its answer after its left part, its right child's number, and its right part.
-use Prim.Native.Nat.{ℕ, zero, _+_, _-_, _^_, _≤_, _<_}
+use Prim.Native.Nat.{ℕ, _+_, _-_, _^_, _≤_, _<_}
 use native.Mathlib.Omega.{arith}
-use mathlib.Core.Bool.{true}
-use mathlib.Core.Path.{_≡_, refl, sym, ap, _∙_}
+use mathlib.Core.Path.{_≡_, sym, ap, _∙_}
 use mathlib.Core.List.{List}
-use lib.Dec.{eqb}
 use borrow.Author.Tests.{eq-eqb, ne-eqb}
 use Rattle.refusals.specs.declared.Refusal.{Refusal}
 use Rattle.refusals.specs.declared.Refusal.the-variants.{NodeWrong}
-use Rattle.fields.specs.Cuts.{leftOf, rightOf, leftPart, rightPart}
+use Rattle.fields.specs.Cuts.{rightOf, leftPart, rightPart}
 use Rattle.fields.proofs.Cuts.{left-divided, right-divided}
 use Rattle.tree_check.specs.declared.preorder.Lack.{Lack}
 use Rattle.tree_check.specs.declared.preorder.Part.{Part}

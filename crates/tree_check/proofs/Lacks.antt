@@ -2,12 +2,12 @@
 use Prim.Native.Nat.{ℕ, _≤_, _<_}
 use native.Mathlib.Omega.{arith}
 use mathlib.Core.Bool.{Bool, true, false, not, _&&_}
-use mathlib.Core.Path.{_≡_, refl, sym, ap, subst, _∙_}
-use mathlib.Core.Logic.{_⊎_, inl, inr, _↔_}
+use mathlib.Core.Path.{_≡_, refl, sym, subst, _∙_}
+use mathlib.Core.Logic.{_↔_}
 use mathlib.Core.List.{List}
 use borrow.Author.Tests.{lt-ltb, le-ltb, not-true}
 use Rattle.facts.specs.Lists.{has}
-use Rattle.facts.proofs.Bools.{both, join, sure, clash}
+use Rattle.facts.proofs.Bools.{both, clash}
 use Rattle.facts.proofs.Cases.{WithinOrOver, atMost, over, within-or-over}
 use Rattle.facts.proofs.Lowest.{lowest-at-most, lowest-passes, lowest-none-iff}
 use Rattle.fields.specs.Words.{fieldCount}

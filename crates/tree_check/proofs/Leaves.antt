@@ -1,5 +1,5 @@
 -- A leaf of a part: its entries as a part of the pool, and its answer by its tests.
-use Prim.Native.Nat.{ℕ, zero, _+_, _-_, _^_, _≤_, _<_}
+use Prim.Native.Nat.{ℕ, _+_, _-_, _^_, _≤_, _<_}
 use mathlib.Core.Bool.{Bool, true, false, not}
 use mathlib.Core.Path.{_≡_, sym, ap, _∙_}
 use mathlib.Core.List.{List}
@@ -11,7 +11,6 @@ use Rattle.refusals.specs.declared.Refusal.the-variants.{LeafWrong}
 use Rattle.rules.specs.Words.{ruleCount}
 use Rattle.rules.specs.Lacking.{lowestLacking}
 use Rattle.trees.specs.Spelt.{Spelt}
-use Rattle.trees.proofs.Nodes.{IsLeaf}
 use Rattle.trees.proofs.Spelling.{part-is-entries}
 use Rattle.tree_check.specs.declared.preorder.Lack.{Lack}
 use Rattle.tree_check.specs.declared.preorder.Lack.the-variants.{Complete, Lacks}

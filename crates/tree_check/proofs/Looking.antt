@@ -1,23 +1,20 @@
 -- What a look at a node says of the part that begins there.
-use Prim.Native.Nat.{ℕ, zero, suc, _+_, _-_, _<_, _≤_}
+use Prim.Native.Nat.{ℕ, suc, _+_, _-_, _<_}
 use native.Mathlib.Omega.{arith}
 use mathlib.Core.Bool.{Bool, true, false, not, cond}
 use mathlib.Core.Path.{_≡_, refl, sym, ap, subst, _∙_}
 use mathlib.Core.List.{List}
-use lib.ListN.{length, take, drop}
 use lib.Dec.{eqb}
 use borrow.Author.Tests.{eqb-true, eqb-false, eq-eqb, ne-eqb}
 use Rattle.facts.proofs.Bools.{held, failed}
 use Rattle.refusals.specs.declared.Refusal.the-variants.{NodeWrong}
 use Rattle.fields.specs.Cuts.{divides, leftOf, rightOf}
-use Rattle.rules.specs.Words.{ruleCount}
 use Rattle.trees.specs.declared.words.Node.{Node}
 use Rattle.trees.specs.declared.words.Node.the-variants as node
-use Rattle.trees.specs.Words.{leafMark, nodeCount, fieldOf, valueOf, childOf, entries}
+use Rattle.trees.specs.Words.{fieldOf, valueOf, childOf, entries}
 use Rattle.trees.specs.Node.{nodeAt}
 use Rattle.trees.proofs.Nodes.{IsLeaf, IsCut, missing-means, leaf-is, cut-is}
-use Rattle.tree_check.specs.declared.preorder.Part.{Part}
-use Rattle.tree_check.specs.declared.preorder.Part.the-variants.{Refused, Good}
+use Rattle.tree_check.specs.declared.preorder.Part.the-variants.{Refused}
 use Rattle.tree_check.specs.declared.preorder.Look.{Look}
 use Rattle.tree_check.specs.declared.preorder.Look.the-variants.{Wrong, Leaf, Cut}
 use Rattle.tree_check.specs.Preorder.{afterLeft, leafPart, partOf}

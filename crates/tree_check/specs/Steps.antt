@@ -2,9 +2,8 @@
 --   lookAt nodes k b i       node i: wrong where it is missing, too deep or does not divide the box; a leaf; or a cut
 --   Judged m p r             r says what the part p does of a tree of m nodes
 --   Shallow p                the cuts of a good part are few enough to count one more
-use Prim.Native.Nat.{ℕ, zero, _<_, _^_}
+use Prim.Native.Nat.{ℕ, _<_, _^_}
 use mathlib.Core.Bool.{cond}
-use mathlib.Core.Path.{_≡_}
 use mathlib.Core.List.{List}
 use lib.Dec.{eqb}
 use Rattle.refusals.specs.Promises.{Says}

@@ -6,7 +6,7 @@
 --   checkVerdict     those, then the preorder walk, then 8
 --   figures p        the most cuts above a leaf of the part p, and its longest leaf
 --   TreeChecked      the promise: what checkVerdict refuses; else the figures of the root's part
-use Prim.Native.Nat.{ℕ, zero}
+use Prim.Native.Nat.{ℕ}
 use mathlib.Core.List.{List, [], _∷_}
 use lib.Dec.{eqb}
 use Rattle.refusals.specs.declared.Refusal.the-variants.{NodeWrong, LeafLacksRule}

@@ -4,7 +4,7 @@
 --                                most k cuts above any of its leaves
 --   WellFormed n nodes pool      spelt, there being n rules, and the root's part ends at the last node
 --   Proper rs nodes pool         the list is good, the sizes hold, and the tree is well formed
-use Prim.Native.Nat.{ℕ, zero, suc, _+_, _≤_, _<_}
+use Prim.Native.Nat.{ℕ, suc, _+_, _≤_, _<_}
 use mathlib.Core.Bool.{true}
 use mathlib.Core.Path.{_≡_}
 use mathlib.Core.List.{List}

@@ -11,7 +11,6 @@ use trees::words::Node;
 use trees::words::node_at;
 ghost use Prim.Native.Nat.{_+_, _<_, _≤_, _^_, max};
 ghost use mathlib.Core.Path.{_≡_};
-ghost use lib.ListN.{length};
 ghost use Rattle.facts.specs.Lists.{rises};
 ghost use Rattle.rules.specs.Words.{ruleCount};
 ghost use Rattle.trees.specs.Spelt.{Spelt};

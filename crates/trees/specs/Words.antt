@@ -7,7 +7,7 @@
 --   startOf, countOf nodes i             the second and third word of leaf i: where its entries start, and how many
 --   entries nodes pool i   the entries of leaf i
 --   sizeVerdict nodes pool    5: no node words, not whole nodes, or too many; or too long a pool
-use Prim.Native.Nat.{ℕ, zero, _+_, _*_, _/_, _%_}
+use Prim.Native.Nat.{ℕ, _+_, _*_, _/_, _%_}
 use mathlib.Core.List.{List}
 use lib.ListN.{length, getD, take, drop}
 use lib.Dec.{leb, ltb, eqb}

@@ -3,8 +3,8 @@
 --   left n s    what is left of a buffer of n bytes after the reads s, and one more while more may follow
 use Prim.Native.Nat.{ℕ, _+_, _-_, _^_, _≤_, _<_}
 use native.Mathlib.Omega.{arith}
-use mathlib.Core.Bool.{Bool, true, false, cond}
-use mathlib.Core.Path.{_≡_, refl, sym, ap, subst, _∙_}
+use mathlib.Core.Bool.{true, cond}
+use mathlib.Core.Path.{_≡_, sym, subst}
 use mathlib.Core.List.{List}
 use lib.ListN.{length, drop, length-take, length-drop}
 use Rattle.console.proofs.Parts.{restOf}

@@ -3,7 +3,7 @@
 use Prim.Native.Nat.{_≤_, _-_}
 use native.Mathlib.Nat.{sub-zero}
 use native.Mathlib.Omega.{arith}
-use mathlib.Core.Path.{_≡_, refl, sym, ap, _∙_}
+use mathlib.Core.Path.{_≡_, refl, sym, _∙_}
 use Rattle.facts.specs.Lists.{upFrom}
 use Rattle.facts.proofs.Steps.{up-step, up-end}
 use Rattle.facts.proofs.Seeking.{NoneYet, none-first, first-found, none-step, none-last}

@@ -1,10 +1,9 @@
 -- `tree_check::preorder::join` meets its contract: the deeper, the longer, and the first lack. Assumes nothing.
 use native.Mathlib.Omega.{arith}
 use mathlib.Core.Path.{sym, ap}
-use mathlib.Core.Path.{sym, ap, _∙_}
+use mathlib.Core.Path.{sym, ap}
 use borrow.Author.Needs.{needs}
 use Rattle.tree_check.specs.Preorder.{afterRight}
-use Rattle.tree_check.specs.declared.preorder.Part.{Part}
 use Rattle.tree_check.proofs.Leaves.{shallow-cuts}
 use Rattle.tree_check.proofs.preorder.join.Statement.{statement}
 use Rattle.tree_check.proofs.preorder.join.Tie as tie

@@ -1,10 +1,7 @@
 -- `tree_check::preorder::look_at` meets its contract: the node, then the depth, then the value. Assumes nothing.
 use mathlib.Core.Path.{sym, _∙_}
-use mathlib.Core.Path.{sym, ap, _∙_}
-use borrow.Author.Tests.{eq-eqb, ne-eqb}
+use mathlib.Core.Path.{sym, _∙_}
 use borrow.Author.Needs.{needs}
-use Rattle.facts.proofs.Bools.{held, failed}
-use Rattle.trees.specs.declared.words.Node.{Node}
 use Rattle.tree_check.specs.Steps.{lookIn, lookAt}
 use Rattle.tree_check.proofs.Looking.{look-missing, look-leaf, look-deep, look-out, look-cut}
 use Rattle.tree_check.proofs.preorder.look_at.Statement.{statement}

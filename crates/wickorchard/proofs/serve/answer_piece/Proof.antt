@@ -1,6 +1,6 @@
 -- `wickorchard::serve::answer_piece` meets its contract: each turn of the loop takes some bytes of the piece, has their
 -- replies written, and goes on from the line that they leave gathered. Assumes nothing.
-use Prim.Native.Nat.{_+_, _-_, _≤_, _<_}
+use Prim.Native.Nat.{_+_, _-_, _≤_}
 use native.Mathlib.Omega.{arith}
 use mathlib.Core.Path.{_≡_}
 use lib.ListN.{length}

@@ -37,16 +37,15 @@ read-some-requires c κs = tt
 
 next-requires : tie.Need-next-requires Inv-loop μ-loop
 next-requires c κs =
-    let here = c .before .before .before .before .before .before .before .loop in
-    let read = c .before .before .read-some in
+    let part = c .before .before in let read = part .read-some in
+    let here = part .before .before .before .before .before .loop in
     part-fits (here .buffer) (read .last .1 .0) (here .reads) (here .inv .0) (here .inv .1) (omega arith)
     (read .result) (omega arith) (read .ensures)
 
 loop-less : tie.Need-loop-less Inv-loop μ-loop
 loop-less c =
-    let read = c .before .before .before .read-some in
-    let test = c .before .before .before .before .before in
-    let here = test .before .before .before .loop in
+    let part = c .before .before .before in let read = part .read-some in
+    let test = part .before .before in let here = test .before .before .before .loop in
     let size = c .before .before .buffer .given .1 in
     part-falls (here .buffer) (read .last .1 .0) (here .reads) (here .inv .0) (here .inv .1) (omega arith)
     (read .result) (omega (arith, size)) (sym (test .before .more .ensures) ∙ test .if1 .taken) (c .next .ensures)
@@ -54,8 +53,8 @@ loop-less c =
 
 loop-again : tie.Need-loop-again Inv-loop μ-loop
 loop-again c =
-    let read = c .before .before .before .read-some in
-    let here = c .before .before .before .before .before .before .before .before .loop in
+    let part = c .before .before .before in let read = part .read-some in
+    let here = part .before .before .before .before .before .loop in
     let size = c .before .before .buffer .given .1 in
     let within =
     part-within (here .buffer) (read .last .1 .0) (here .reads) (here .inv .0) (here .inv .1) (omega arith)
@@ -70,8 +69,8 @@ read-next-requires c κs = tt
 
 next-requires-2 : tie.Need-next-requires-2 Inv-loop μ-loop
 next-requires-2 c κs =
-    let w = c .before .before .before .before in
-    one-fits (w .loop .reads .done) (c .read-next .result) (omega arith) (c .read-next .ensures)
+    let turn = c .before .before .before .before in
+    one-fits (turn .loop .reads .done) (c .read-next .result) (omega arith) (c .read-next .ensures)
 
 same-length : tie.Need-same-length Inv-loop μ-loop
 same-length c = omega arith

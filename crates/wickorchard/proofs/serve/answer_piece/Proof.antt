@@ -17,14 +17,16 @@ Inv-loop rules nodes pool accepted from piece out₀ gathering₀ at₀ out gath
 abbrev μ-loop : tie.MeasureT-loop
 μ-loop rules nodes pool accepted from piece out₀ gathering₀ at₀ out gathering at = length piece - at
 
+-- the loop, from where bytes are fed
+abbrev turn : tie.After-feed Inv-loop μ-loop → tie.At-loop Inv-loop μ-loop
+turn c = c .before .before .before .before
+
 -- a turn takes no more than what is left of the piece
 within :
-    (c : tie.After-feed Inv-loop μ-loop) → let here = c .before .before .before .before .loop in
-    let piece = c .before .before .before .before .before .before .before .before .before .before .args .piece .now in
-    here .at + c .feed .result .taken ≤ length piece
-within c =
-    let here = c .before .before .before .before .loop in
-    head-within (here .inv .0) (c .feed .ensures .0) (c .feed .ensures .1 .0)
+    (c : tie.After-feed Inv-loop μ-loop) →
+    let start = turn c .before .before .before .before .before .before in
+    turn c .loop .at + c .feed .result .taken ≤ length (start .args .piece .now)
+within c = head-within (turn c .loop .inv .0) (c .feed .ensures .0) (c .feed .ensures .1 .0)
 
 loop-holds : tie.Need-loop-holds Inv-loop μ-loop
 loop-holds c = (head-first _ _, omega arith)
@@ -56,8 +58,7 @@ part-write-replies-end c = omega (arith, within (c .before .before .before))
 write-replies-requires : tie.Need-write-replies-requires Inv-loop μ-loop
 write-replies-requires c κs =
     let fed = c .before .before .before .before .before in
-    let here = fed .before .before .before .before in
-    head-front (here .loop .inv .0) (fed .feed .ensures .0) (fed .feed .ensures .1 .0)
+    head-front (turn fed .loop .inv .0) (fed .feed .ensures .0) (fed .feed .ensures .1 .0)
 
 output-failed-requires : tie.Need-output-failed-requires Inv-loop μ-loop
 output-failed-requires c κs = tt
@@ -71,16 +72,14 @@ returns c = unwritten (c .output-failed .ensures)
 loop-less : tie.Need-loop-less Inv-loop μ-loop
 loop-less c =
     let fed = c .before .before .before .before .before .before .before .before in
-    let here = fed .before .before .before .before in
-    let start = here .before .before .before .before .before .before in
+    let here = turn fed in let start = here .before .before .before .before .before .before in
     let some = head-some (start .pre .0) (here .loop .inv .0) (fed .feed .ensures .0) (omega arith) (omega arith) in
     omega (arith, within fed, some)
 
 loop-again : tie.Need-loop-again Inv-loop μ-loop
 loop-again c =
     let fed = c .before .before .before .before .before .before .before .before in
-    let here = fed .before .before .before .before in
-    (head-step (here .loop .inv .0) (fed .feed .ensures .0) (fed .feed .ensures .1 .0), omega arith)
+    (head-step (turn fed .loop .inv .0) (fed .feed .ensures .0) (fed .feed .ensures .1 .0), omega arith)
 
 more-to-read-requires : tie.Need-more-to-read-requires Inv-loop μ-loop
 more-to-read-requires c κs = tt

@@ -3,7 +3,7 @@ use Prim.Native.Nat.{ℕ}
 use mathlib.Core.Path.{_≡_, sym, ap, _∙_}
 use mathlib.Core.List.{List}
 use Rattle.refusals.specs.Paper.{Paper}
-use Rattle.exports.specs.Answers.{inWords, InWords}
+use Rattle.exports.specs.Answers.{asEight, InWords}
 
 -- two answers that a promise allows are equal, and so are the two states v and w of the lent outputs, whether there are
 -- none, one or two. The promises of all ten calls (specs/Calls.antt) are instances of `InWords`
@@ -14,4 +14,4 @@ pub in-words-unique :
     InWords words paper (λ r. P r w) other → (answer ≡ other) × (v ≡ w)
 in-words-unique {R} {words = words} {paper = paper} one p q =
     let same = one (p .said) (q .said) _ _ (p .promised) (q .promised) in
-    (p .answers ∙ ap (λ (r : R). inWords words (paper r)) (same .0) ∙ sym (q .answers), same .1)
+    (p .answers ∙ ap (λ (r : R). asEight words (paper r)) (same .0) ∙ sym (q .answers), same .1)

@@ -35,15 +35,15 @@ inOneWord values = firstWord values ∷ []
 abbrev pub firstInWords : List ℕ → List ℕ
 firstInWords values = firstWord (drop 2 values) ∷ take 2 values
 
-abbrev pub inWords : (List ℕ → List ℕ) → Paper → List ℕ
-inWords words (refusal number place extra) = eight (refusal number place extra)
-inWords words (success values) = eight (success (words values))
+abbrev pub asEight : (List ℕ → List ℕ) → Paper → List ℕ
+asEight words (refusal number place extra) = eight (refusal number place extra)
+asEight words (success values) = eight (success (words values))
 
 pub record InWords {R : Type 0} (words : List ℕ → List ℕ) (paper : R → Paper) (P : R → Type 0) (answer : List ℕ) :
     Type 0 where
   pub said : R
   pub promised : P said
-  pub answers : answer ≡ inWords words (paper said)
+  pub answers : answer ≡ asEight words (paper said)
 
 unfoldable pub MatchFits : First → Type 0
 MatchFits (Refused why) = Unit {0}

@@ -4,7 +4,7 @@ use text::put::Written;
 ghost use mathlib.Core.Path.{_≡_};
 ghost use Rattle.refusals.specs.Paper.{onPaper};
 ghost use Rattle.text.specs.Said as written;
-ghost use Rattle.exports.specs.Answers.{eight, plainly, inWords};
+ghost use Rattle.exports.specs.Answers.{eight, plainly, asEight};
 
 // A refusal: its number, place and extra.
 pub(crate) fn of_refusal(why: Refusal) -> [u64; 8]
@@ -24,7 +24,7 @@ pub(crate) fn of_refusal(why: Refusal) -> [u64; 8]
 
 // What a writer says: the value is how many bytes it wrote.
 pub(crate) fn of_written(said: Written) -> [u64; 8]
-    ensures { λ r. ⌜ r ≡ inWords plainly (written.paper said) ⌝ }
+    ensures { λ r. ⌜ r ≡ asEight plainly (written.paper said) ⌝ }
 {
     match said {
         Written::Refused(why) => of_refusal(why),

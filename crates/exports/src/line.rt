@@ -7,7 +7,7 @@ ghost use mathlib.Core.Path.{_≡_};
 ghost use Rattle.rules.specs.RuleCheck as checked;
 ghost use Rattle.rules.specs.LineAll as listed;
 ghost use Rattle.rules.specs.LineFirst as first;
-ghost use Rattle.exports.specs.Answers.{plainly, inOneWord, inWords, MatchFits};
+ghost use Rattle.exports.specs.Answers.{plainly, inOneWord, asEight, MatchFits};
 ghost use Rattle.exports.specs.Calls.{RuleCheckAnswered, LineAllAnswered, LineFirstAnswered};
 
 // The value: the number of rules.
@@ -41,7 +41,7 @@ pub extern "C" fn wick_line_first(rules: &[u32], header: &[u32], answer: &mut [u
 }
 
 fn of_checked(said: Checked) -> [u64; 8]
-    ensures { λ r. ⌜ r ≡ inWords plainly (checked.paper said) ⌝ }
+    ensures { λ r. ⌜ r ≡ asEight plainly (checked.paper said) ⌝ }
 {
     match said {
         Checked::Refused(why) => of_refusal(why),
@@ -50,7 +50,7 @@ fn of_checked(said: Checked) -> [u64; 8]
 }
 
 fn of_listed(said: Listed) -> [u64; 8]
-    ensures { λ r. ⌜ r ≡ inWords plainly (listed.paper said) ⌝ }
+    ensures { λ r. ⌜ r ≡ asEight plainly (listed.paper said) ⌝ }
 {
     match said {
         Listed::Refused(why) => of_refusal(why),
@@ -60,7 +60,7 @@ fn of_listed(said: Listed) -> [u64; 8]
 
 fn of_first(said: First) -> [u64; 8]
     requires { ⌜ MatchFits said ⌝ }
-    ensures { λ r. ⌜ r ≡ inWords inOneWord (first.paper said) ⌝ }
+    ensures { λ r. ⌜ r ≡ asEight inOneWord (first.paper said) ⌝ }
 {
     match said {
         First::Refused(why) => of_refusal(why),

@@ -7,7 +7,7 @@ ghost use mathlib.Core.Path.{_≡_};
 ghost use Rattle.trees.specs.TreeAll as listed;
 ghost use Rattle.trees.specs.TreeFirst as first;
 ghost use Rattle.tree_check.specs.TreeCheck as checked;
-ghost use Rattle.exports.specs.Answers.{plainly, countsLast, firstInWords, inWords};
+ghost use Rattle.exports.specs.Answers.{plainly, countsLast, firstInWords, asEight};
 ghost use Rattle.exports.specs.Calls.{TreeAllAnswered, TreeFirstAnswered, TreeCheckAnswered};
 
 // The values: how many numbers were written to `out`, the nodes visited, the entries compared.
@@ -51,7 +51,7 @@ pub extern "C" fn wick_tree_check(rules: &[u32], nodes: &[u32], pool: &[u32], an
 }
 
 fn of_listed(said: TreeListed) -> [u64; 8]
-    ensures { λ r. ⌜ r ≡ inWords countsLast (listed.paper said) ⌝ }
+    ensures { λ r. ⌜ r ≡ asEight countsLast (listed.paper said) ⌝ }
 {
     match said {
         TreeListed::Refused(why) => of_refusal(why),
@@ -64,7 +64,7 @@ fn of_listed(said: TreeListed) -> [u64; 8]
 }
 
 fn of_first(said: TreeFirst) -> [u64; 8]
-    ensures { λ r. ⌜ r ≡ inWords firstInWords (first.paper said) ⌝ }
+    ensures { λ r. ⌜ r ≡ asEight firstInWords (first.paper said) ⌝ }
 {
     match said {
         TreeFirst::Refused(why) => of_refusal(why),
@@ -89,7 +89,7 @@ fn of_first(said: TreeFirst) -> [u64; 8]
 }
 
 fn of_checked(said: TreeAnswer) -> [u64; 8]
-    ensures { λ r. ⌜ r ≡ inWords plainly (checked.paper said) ⌝ }
+    ensures { λ r. ⌜ r ≡ asEight plainly (checked.paper said) ⌝ }
 {
     match said {
         TreeAnswer::Refused(why) => of_refusal(why),

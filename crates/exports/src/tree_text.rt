@@ -4,7 +4,7 @@ use crate::answer::of_written;
 use tree_file::read::Read;
 ghost use mathlib.Core.Path.{_≡_};
 ghost use Rattle.tree_file.specs.Reading as read;
-ghost use Rattle.exports.specs.Answers.{plainly, inWords};
+ghost use Rattle.exports.specs.Answers.{plainly, asEight};
 ghost use Rattle.exports.specs.Calls.{TreeWriteAnswered, TreeReadAnswered};
 
 // The value: the bytes that were written to `text`, there being `rules` rules.
@@ -37,7 +37,7 @@ pub extern "C" fn wick_tree_read(
 }
 
 fn of_read(said: Read) -> [u64; 8]
-    ensures { λ r. ⌜ r ≡ inWords plainly (read.paper said) ⌝ }
+    ensures { λ r. ⌜ r ≡ asEight plainly (read.paper said) ⌝ }
 {
     match said {
         Read::Refused(why) => of_refusal(why),

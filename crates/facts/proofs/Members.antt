@@ -81,7 +81,7 @@ has-of-up (suc m) i y e = go (has-cons i (upFrom (i + 1) m) y e) (λ r. has-of-u
     go (inl q) r = (omega arith, omega arith)
     go (inr q) r = let z = r q in (omega arith, omega arith)
 
--- what lies between a run's ends stands in it
+-- what lies between the ends stands in numbers counted up
 pub up-has : (m i y : ℕ) → i ≤ y → y < i + m → has (upFrom i m) y ≡ true
 unfolding upFrom has
 up-has zero i y l u = absurd (omega arith)

@@ -137,10 +137,10 @@ module _ {S R : Type 0} (step : S → List ℕ → Option S) (finish : S → Opt
 
   -- a text that reads well leads to a state that holds its result
   pub led-to :
-      (W : S → List ℕ → Type 0) →
-      (walk : (st st′ : S) (t l : List ℕ) → W st t → step st l ≡ some st′ → W st′ (t ++ ended l)) → {st : S} →
-      W st [] → (s : List ℕ) (r : R) → readAll step finish st 0 (split s) ≡ good r → Led step finish W walk r s
-  led-to W walk {st} w s r h = go (split s) (split-exact s) h
+      (Leads : S → List ℕ → Type 0) →
+      (walk : (st st′ : S) (t l : List ℕ) → Leads st t → step st l ≡ some st′ → Leads st′ (t ++ ended l)) → {st : S} →
+      Leads st [] → (s : List ℕ) (r : R) → readAll step finish st 0 (split s) ≡ good r → Led step finish Leads walk r s
+  led-to Leads walk {st} w s r h = go (split s) (split-exact s) h
     where
-      go : (x : Text) → bytes x ≡ s → readAll step finish st 0 x ≡ good r → Led step finish W walk r s
-      go (whole ls t) e q = rw e at (led step finish W walk st 0 ls [] t r w q)
+      go : (x : Text) → bytes x ≡ s → readAll step finish st 0 x ≡ good r → Led step finish Leads walk r s
+      go (whole ls t) e q = rw e at (led step finish Leads walk st 0 ls [] t r w q)

@@ -103,18 +103,18 @@ module _ {S R : Type 0} (step : S → List ℕ → Option S) (finish : S → Opt
       let f : k + suc (length ls) ≡ k + 1 + length ls = omega arith in
       rw (e, f) (walk-run (k + 1) ms t w)
 
--- W st t says that the bytes t lead to the state st
+-- Leads st t says that the bytes t lead to the state st
 module _
-    {S R : Type 0} (step : S → List ℕ → Option S) (finish : S → Option R) (W : S → List ℕ → Type 0)
-    (walk : (st st′ : S) (t l : List ℕ) → W st t → step st l ≡ some st′ → W st′ (t ++ (l ++ (newline ∷ []))))
+    {S R : Type 0} (step : S → List ℕ → Option S) (finish : S → Option R) (Leads : S → List ℕ → Type 0)
+    (walk : (st st′ : S) (t l : List ℕ) → Leads st t → step st l ≡ some st′ → Leads st′ (t ++ (l ++ (newline ∷ []))))
   where
     pub record Led (r : R) (t : List ℕ) : Type 0 where
       pub last : S
-      pub led : W last t
+      pub led : Leads last t
       pub result : finish last ≡ some r
 
     led-end :
-        (st : S) (k : ℕ) (t s : List ℕ) (r : R) (f : Option R) → finish st ≡ f → W st t → atEnd f k s ≡ good r →
+        (st : S) (k : ℕ) (t s : List ℕ) (r : R) (f : Option R) → finish st ≡ f → Leads st t → atEnd f k s ≡ good r →
         Led r (t ++ s)
     led-end st k t s r none e w h = refused-good h
     led-end st k t [] r (some q) e w h =
@@ -123,15 +123,15 @@ module _
     led-end st k t (b ∷ s) r (some q) e w h = refused-good h
 
     led-step :
-        (st : S) (k : ℕ) (l t s : List ℕ) (r : R) (o : Option S) (on : S → Reading R) → step st l ≡ o → W st t →
-        onStep o k on ≡ good r → ((st′ : S) → W st′ (t ++ (l ++ (newline ∷ []))) → on st′ ≡ good r → Led r s) →
+        (st : S) (k : ℕ) (l t s : List ℕ) (r : R) (o : Option S) (on : S → Reading R) → step st l ≡ o → Leads st t →
+        onStep o k on ≡ good r → ((st′ : S) → Leads st′ (t ++ (l ++ (newline ∷ []))) → on st′ ≡ good r → Led r s) →
         Led r s
     led-step st k l t s r none on e w h ih = refused-good h
     led-step st k l t s r (some st′) on e w h ih = ih st′ (walk st st′ t l w e) h
 
     -- a text that reads well leads to a state that holds its result
     pub led :
-        (st : S) (k : ℕ) (ls : List (List ℕ)) (t s : List ℕ) (r : R) → W st t → run step finish st k ls s ≡ good r →
+        (st : S) (k : ℕ) (ls : List (List ℕ)) (t s : List ℕ) (r : R) → Leads st t → run step finish st k ls s ≡ good r →
         Led r (t ++ (unlines ls ++ s))
     unfolding run unlines
     led st k [] t s r w h = led-end st k t s r (finish st) refl w h

@@ -1,7 +1,7 @@
 -- `exports::answer::of_written` meets its contract: each case of the answer, as eight words. Assumes nothing.
 use mathlib.Core.Path.{sym, ap, _∙_}
 use borrow.Author.Needs.{needs}
-use Rattle.exports.specs.Answers.{plainly, inWords}
+use Rattle.exports.specs.Answers.{plainly, asEight}
 use Rattle.text.specs.declared.put.Written.{Written}
 use Rattle.text.specs.Said.{paper}
 use Rattle.exports.proofs.answer.of_written.Statement.{statement}
@@ -18,10 +18,10 @@ enum-known-said-2 c = search needs
 
 returns : tie.Need-returns
 returns c =
-    c .of-refusal .ensures ∙ sym (ap (λ (x : Written). inWords plainly (paper x)) (c .before .before .said .given .1))
+    c .of-refusal .ensures ∙ sym (ap (λ (x : Written). asEight plainly (paper x)) (c .before .before .said .given .1))
 
 returns-2 : tie.Need-returns-2
-returns-2 c = sym (ap (λ (x : Written). inWords plainly (paper x)) (c .before .said2 .given .1))
+returns-2 c = sym (ap (λ (x : Written). asEight plainly (paper x)) (c .before .said2 .given .1))
 
 pub of-written-spec : {M : Type 1} → statement M
 of-written-spec =

@@ -4,7 +4,7 @@ use mathlib.Core.Path.{sym, ap, _∙_}
 use borrow.Author.Needs.{needs}
 use Rattle.rules.specs.declared.line.First.{First}
 use Rattle.rules.specs.LineFirst.{paper}
-use Rattle.exports.specs.Answers.{inOneWord, inWords}
+use Rattle.exports.specs.Answers.{inOneWord, asEight}
 use Rattle.exports.proofs.Answers.{number-fits}
 use Rattle.exports.proofs.line.of_first.Statement.{statement}
 use Rattle.exports.proofs.line.of_first.Tie as tie
@@ -26,13 +26,13 @@ enum-told c = search needs
 
 returns : tie.Need-returns
 returns c =
-    c .of-refusal .ensures ∙ sym (ap (λ (x : First). inWords inOneWord (paper x)) (c .before .before .said .given .1))
+    c .of-refusal .ensures ∙ sym (ap (λ (x : First). asEight inOneWord (paper x)) (c .before .before .said .given .1))
 
 returns-2 : tie.Need-returns-2
-returns-2 c = sym (ap (λ (x : First). inWords inOneWord (paper x)) (c .before .said2 .given .1))
+returns-2 c = sym (ap (λ (x : First). asEight inOneWord (paper x)) (c .before .said2 .given .1))
 
 returns-3 : tie.Need-returns-3
-returns-3 c = sym (ap (λ (x : First). inWords inOneWord (paper x)) (c .enum-told .given .1))
+returns-3 c = sym (ap (λ (x : First). asEight inOneWord (paper x)) (c .enum-told .given .1))
 
 pub of-first-spec : {M : Type 1} → statement M
 of-first-spec =

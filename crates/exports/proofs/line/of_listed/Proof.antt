@@ -3,7 +3,7 @@ use mathlib.Core.Path.{sym, ap, _∙_}
 use borrow.Author.Needs.{needs}
 use Rattle.rules.specs.declared.line.Listed.{Listed}
 use Rattle.rules.specs.LineAll.{paper}
-use Rattle.exports.specs.Answers.{plainly, inWords}
+use Rattle.exports.specs.Answers.{plainly, asEight}
 use Rattle.exports.proofs.line.of_listed.Statement.{statement}
 use Rattle.exports.proofs.line.of_listed.Tie as tie
 
@@ -18,10 +18,10 @@ enum-known-said-2 c = search needs
 
 returns : tie.Need-returns
 returns c =
-    c .of-refusal .ensures ∙ sym (ap (λ (x : Listed). inWords plainly (paper x)) (c .before .before .said .given .1))
+    c .of-refusal .ensures ∙ sym (ap (λ (x : Listed). asEight plainly (paper x)) (c .before .before .said .given .1))
 
 returns-2 : tie.Need-returns-2
-returns-2 c = sym (ap (λ (x : Listed). inWords plainly (paper x)) (c .before .said2 .given .1))
+returns-2 c = sym (ap (λ (x : Listed). asEight plainly (paper x)) (c .before .said2 .given .1))
 
 pub of-listed-spec : {M : Type 1} → statement M
 of-listed-spec =

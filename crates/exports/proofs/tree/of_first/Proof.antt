@@ -4,7 +4,7 @@ use mathlib.Core.Path.{sym, ap, _∙_}
 use borrow.Author.Needs.{needs}
 use Rattle.trees.specs.declared.search.TreeFirst.{TreeFirst}
 use Rattle.trees.specs.TreeFirst.{paper}
-use Rattle.exports.specs.Answers.{firstInWords, inWords}
+use Rattle.exports.specs.Answers.{firstInWords, asEight}
 use Rattle.exports.proofs.tree.of_first.Statement.{statement}
 use Rattle.exports.proofs.tree.of_first.Tie as tie
 
@@ -29,13 +29,13 @@ enum-known-said-3 c = search needs
 returns : tie.Need-returns
 returns c =
     c .of-refusal .ensures ∙
-    sym (ap (λ (x : TreeFirst). inWords firstInWords (paper x)) (c .before .before .said .given .1))
+    sym (ap (λ (x : TreeFirst). asEight firstInWords (paper x)) (c .before .before .said .given .1))
 
 returns-2 : tie.Need-returns-2
-returns-2 c = sym (ap (λ (x : TreeFirst). inWords firstInWords (paper x)) (c .before .said2 .given .1))
+returns-2 c = sym (ap (λ (x : TreeFirst). asEight firstInWords (paper x)) (c .before .said2 .given .1))
 
 returns-3 : tie.Need-returns-3
-returns-3 c = sym (ap (λ (x : TreeFirst). inWords firstInWords (paper x)) (c .before .said3 .given .1))
+returns-3 c = sym (ap (λ (x : TreeFirst). asEight firstInWords (paper x)) (c .before .said3 .given .1))
 
 pub of-first-spec : {M : Type 1} → statement M
 of-first-spec =

@@ -1,7 +1,7 @@
 -- `exports::tree_text::of_read` meets its contract: each case of the answer, as eight words. Assumes nothing.
 use mathlib.Core.Path.{sym, ap, _∙_}
 use borrow.Author.Needs.{needs}
-use Rattle.exports.specs.Answers.{plainly, inWords}
+use Rattle.exports.specs.Answers.{plainly, asEight}
 use Rattle.tree_file.specs.declared.read.Read.{Read}
 use Rattle.tree_file.specs.Reading.{paper}
 use Rattle.exports.proofs.tree_text.of_read.Statement.{statement}
@@ -18,10 +18,10 @@ enum-known-said-2 c = search needs
 
 returns : tie.Need-returns
 returns c =
-    c .of-refusal .ensures ∙ sym (ap (λ (x : Read). inWords plainly (paper x)) (c .before .before .said .given .1))
+    c .of-refusal .ensures ∙ sym (ap (λ (x : Read). asEight plainly (paper x)) (c .before .before .said .given .1))
 
 returns-2 : tie.Need-returns-2
-returns-2 c = sym (ap (λ (x : Read). inWords plainly (paper x)) (c .before .said2 .given .1))
+returns-2 c = sym (ap (λ (x : Read). asEight plainly (paper x)) (c .before .said2 .given .1))
 
 pub of-read-spec : {M : Type 1} → statement M
 of-read-spec =

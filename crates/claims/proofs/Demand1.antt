@@ -40,6 +40,8 @@ code-claim = (
   in-rules.check.rule_check.Met.met,
   in-rules.line.line_all.Met.met,
   in-rules.line.line_first.Met.met,
+  in-rules.line.scan_all.Met.met,
+  in-rules.line.scan_first.Met.met,
   in-trees.search.tree_all.Met.met,
   in-trees.search.tree_first.Met.met,
   in-check.check.tree_check.Met.met,
@@ -57,6 +59,8 @@ code-claim = (
   exports.line.wick_rule_check.Met.met,
   exports.line.wick_line_all.Met.met,
   exports.line.wick_line_first.Met.met,
+  exports.line.wick_scan_all.Met.met,
+  exports.line.wick_scan_first.Met.met,
   exports.tree.wick_tree_all.Met.met,
   exports.tree.wick_tree_first.Met.met,
   exports.tree.wick_tree_check.Met.met,
@@ -84,6 +88,8 @@ calls-claim =
       rule-check = λ rs r s p q. says-unique checked-apart p q;
       line-all = λ rs h w. writes-only listed-apart (λ r a p. p) (λ e. refl);
       line-first = λ rs h r s p q. says-unique first-apart p q;
+      scan-all = λ rs h w. writes-only listed-apart (λ r a p. p) (λ e. refl);
+      scan-first = λ rs h r s p q. says-unique first-apart p q;
       tree-all = λ rs ns es h w. writes-only trees.listed-apart (λ r a p. p) (λ e. refl);
       tree-first = λ rs ns es h r s p q. says-unique trees.first-apart p q;
       tree-check = λ rs ns es r s p q. says-unique answer-apart p q;

@@ -4,6 +4,7 @@ use mathlib.Core.Path.{_≡_}
 use mathlib.Core.List.{List}
 use Rattle.rules.proofs.Meaning.{matches-iff-inside}
 use Rattle.rules.proofs.Listing.{listed-iff-matches, matching-rises, first-is-lowest}
+use Rattle.rules.proofs.Searches.{scanned-of-good}
 use Rattle.tree_check.specs.Serves.{Serves}
 use Rattle.tree_check.proofs.Accepts.{accepts-iff-serves}
 use Rattle.tree_check.proofs.Searches.{refuses-none, same-list, same-verdict, same-words, same-first}
@@ -22,6 +23,7 @@ matching-claim =
       listed = listed-iff-matches;
       rising = matching-rises;
       lowest = λ rs h r rest e q l. first-is-lowest rs h r rest e .none-before q l;
+      scan = scanned-of-good;
       box = λ rs r g h. matches-iff-inside rs r g h;
     }
 

@@ -27,32 +27,34 @@ use Rattle.exports.proofs as exports
 abbrev pub Code : Type 1 → Type 2
 Code M =
     in-rules.check.rule_check.Statement.statement M × in-rules.line.line_all.Statement.statement M ×
-    in-rules.line.line_first.Statement.statement M × in-trees.search.tree_all.Statement.statement M ×
+    in-rules.line.line_first.Statement.statement M × in-rules.line.scan_all.Statement.statement M ×
+    in-rules.line.scan_first.Statement.statement M × in-trees.search.tree_all.Statement.statement M ×
     in-trees.search.tree_first.Statement.statement M × in-check.check.tree_check.Statement.statement M ×
     in-rule-file.write.rules_write.Statement.statement M × in-rule-file.read.rules_read.Statement.statement M ×
     in-tree-file.write.tree_write.Statement.statement M × in-tree-file.read.tree_read.Statement.statement M ×
     in-console.reply.reply.Statement.statement M × in-console.feed.feed.Statement.statement M ×
     in-console.feed.last_reply.Statement.statement M × in-policy.list.take_list.Statement.statement M ×
     in-policy.tree.take_tree.Statement.statement M × in-policy.serving.who_serves.Statement.statement M ×
-    in-policy.line.verdict_line.Statement.statement M ×
-    exports.line.wick_rule_check.Statement.statement M × exports.line.wick_line_all.Statement.statement M ×
-    exports.line.wick_line_first.Statement.statement M × exports.tree.wick_tree_all.Statement.statement M ×
-    exports.tree.wick_tree_first.Statement.statement M × exports.tree.wick_tree_check.Statement.statement M ×
-    exports.rule_text.wick_rules_write.Statement.statement M ×
-    exports.rule_text.wick_rules_read.Statement.statement M ×
-    exports.tree_text.wick_tree_write.Statement.statement M × exports.tree_text.wick_tree_read.Statement.statement M
+    in-policy.line.verdict_line.Statement.statement M × exports.line.wick_rule_check.Statement.statement M ×
+    exports.line.wick_line_all.Statement.statement M × exports.line.wick_line_first.Statement.statement M ×
+    exports.line.wick_scan_all.Statement.statement M × exports.line.wick_scan_first.Statement.statement M ×
+    exports.tree.wick_tree_all.Statement.statement M × exports.tree.wick_tree_first.Statement.statement M ×
+    exports.tree.wick_tree_check.Statement.statement M × exports.rule_text.wick_rules_write.Statement.statement M ×
+    exports.rule_text.wick_rules_read.Statement.statement M × exports.tree_text.wick_tree_write.Statement.statement M ×
+    exports.tree_text.wick_tree_read.Statement.statement M
 
 pub record Calls : Type 0 where
   pub rule-check : (rs : List ℕ) → Fixes (rules.RuleCheck.RuleChecked rs)
   pub line-all : (rs h w : List ℕ) → WritesOnly w (rules.LineAll.LineAllSearched rs h w) rules.LineAll.paper (value 0)
   pub line-first : (rs h : List ℕ) → Fixes (rules.LineFirst.LineFirstSearched rs h)
+  pub scan-all : (rs h w : List ℕ) → WritesOnly w (rules.Scan.ScanAllSearched rs h w) rules.LineAll.paper (value 0)
+  pub scan-first : (rs h : List ℕ) → Fixes (rules.Scan.ScanFirstSearched rs h)
   pub tree-all :
       (rs ns es h w : List ℕ) → WritesOnly w (trees.TreeAll.TreeAllSearched rs ns es h w) trees.TreeAll.paper (value 2)
   pub tree-first : (rs ns es h : List ℕ) → Fixes (trees.TreeFirst.TreeFirstSearched rs ns es h)
   pub tree-check : (rs ns es : List ℕ) → Fixes (tree-check.TreeCheck.TreeChecked rs ns es)
   pub rules-write : (rs w : List ℕ) → WritesOnly w (rule-file.Writing.RulesWritten rs w) text.Said.paper (value 0)
-  pub rules-read :
-      (s w : List ℕ) →
+  pub rules-read : (s w : List ℕ) →
       WritesOnly w (rule-file.Reading.RulesRead s w) rule-file.Reading.paper (λ vs. value 0 vs * rules.Words.ruleWords)
   pub tree-write :
       (k : ℕ) (ns es w : List ℕ) → WritesOnly w (tree-file.Writing.TreeWritten k ns es w) text.Said.paper (value 0)
@@ -63,6 +65,5 @@ pub record Calls : Type 0 where
   pub reply : (bytes w : List ℕ) → WritesOnly w (text.Said.Said bytes w) text.Said.paper (value 0)
   pub take-list :
       (f : Option (List ℕ)) (w : List ℕ) → WritesOnly w (policy.TakeList.ListTaken f w) policy.TakeList.paper (value 0)
-  pub take-tree :
-      (f : Option (List ℕ)) (ns es : List ℕ) →
+  pub take-tree : (f : Option (List ℕ)) (ns es : List ℕ) →
       WritesBoth ns es (policy.TakeTree.TreeTaken f ns es) policy.TakeTree.paper (value 0) (value 1)

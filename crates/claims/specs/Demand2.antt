@@ -23,7 +23,7 @@ use Rattle.tree_file.specs.TreeText.{treeIn}
 use Rattle.tree_file.specs.TreeLines.{textOf, Fits}
 
 -- a number is listed exactly where it is a rule's and the rule matches; the list rises, so each stands there once, and
--- its first is the lowest that matches; a good rule matches exactly the headers in its box
+-- its first is the lowest; a scan of a good list finds them all; a good rule matches exactly the headers in its box
 pub record Matching : Type 0 where
   pub listed :
       (rs h : List ℕ) (r : ℕ) →
@@ -31,13 +31,13 @@ pub record Matching : Type 0 where
   pub rising : (rs h : List ℕ) → rises 0 (matching rs h) ≡ true
   pub lowest :
       (rs h : List ℕ) (r : ℕ) (rest : List ℕ) → matching rs h ≡ r ∷ rest → (q : ℕ) → q < r → matches rs h q ≡ false
+  pub scan : (rs h : List ℕ) → rules.Good.listVerdict rs ≡ Fine → rules.Scan.scanned rs h ≡ matching rs h
   pub box :
       (rs : List ℕ) (r : ℕ) → rules.Good.good rs r ≡ true → (h : List ℕ) →
       (matches rs h r ≡ true) ↔ fields.Boxes.Inside fields.Words.fieldCount (ruleBox rs r) h
 
--- by a tree that serves the list, any header and room are refused as by the list and leave the same words, and of any
--- header the first match, or the refusal, is the list's; a legal header completes both searches, and the matches of its
--- leaf, of which they give all or the first, are the list's
+-- by a tree that serves the list, any header and room are refused as by the list and leave the same words, and have the
+-- list's first match or refusal; a legal header completes both searches, and the matches of its leaf are the list's
 pub record ByTree (rs ns es : List ℕ) : Type 0 where
   pub refuses : (h : List ℕ) (n : ℕ) → trees.TreeAll.treeAllVerdict rs ns es h n ≡ rules.LineAll.allVerdict rs h n
   pub leaves :

@@ -6,7 +6,8 @@ use mathlib.Core.List.{List}
 use Rattle.rules.specs.declared.line.First.{First}
 use Rattle.rules.specs.declared.line.First.the-variants.{Refused, Rule, NoRule}
 use Rattle.rules.specs.LineFirst.{LineFirstSearched}
-use Rattle.rules.proofs.Searches.{first-below}
+use Rattle.rules.specs.Scan.{ScanFirstSearched}
+use Rattle.rules.proofs.Searches.{first-below, scan-first-below}
 use Rattle.exports.specs.Answers.{MatchFits}
 
 -- the number of a first match that fits is below 2^32
@@ -20,3 +21,10 @@ unfolding MatchFits
 match-fits rs h (Refused why) p = tt
 match-fits rs h (Rule number) p = omega (arith, first-below rs h p)
 match-fits rs h NoRule p = tt
+
+-- and so does what the scan finds
+pub scan-fits : (rs h : List ℕ) (r : First) → ScanFirstSearched rs h r → MatchFits r
+unfolding MatchFits
+scan-fits rs h (Refused why) p = tt
+scan-fits rs h (Rule number) p = scan-first-below rs h p
+scan-fits rs h NoRule p = tt

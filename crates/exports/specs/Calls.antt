@@ -4,6 +4,7 @@ use mathlib.Core.List.{List}
 use Rattle.rules.specs.RuleCheck as rule-check
 use Rattle.rules.specs.LineAll as line-all
 use Rattle.rules.specs.LineFirst as line-first
+use Rattle.rules.specs.Scan as scan
 use Rattle.trees.specs.TreeAll as tree-all
 use Rattle.trees.specs.TreeFirst as tree-first
 use Rattle.tree_check.specs.TreeCheck as tree-check
@@ -27,6 +28,13 @@ LineAllAnswered rs h found after answer =
 
 abbrev pub LineFirstAnswered : Words → Words → Words → Type 0
 LineFirstAnswered rs h answer = InWords inOneWord line-first.paper (line-first.LineFirstSearched rs h) answer
+
+abbrev pub ScanAllAnswered : Words → Words → Words → Words → Words → Type 0
+ScanAllAnswered rs h found after answer =
+    InWords plainly line-all.paper (λ r. scan.ScanAllSearched rs h found r after) answer
+
+abbrev pub ScanFirstAnswered : Words → Words → Words → Type 0
+ScanFirstAnswered rs h answer = InWords inOneWord line-first.paper (scan.ScanFirstSearched rs h) answer
 
 abbrev pub TreeAllAnswered : Words → Words → Words → Words → Words → Words → Words → Type 0
 TreeAllAnswered rs nodes pool h found after answer =

@@ -1,4 +1,4 @@
-// The rule check and the line search as C functions.
+// The rule check, the line search and the scan as C functions.
 use crate::answer::of_refusal;
 use rules::check::Checked;
 use rules::line::First;
@@ -9,6 +9,7 @@ ghost use Rattle.rules.specs.LineAll as listed;
 ghost use Rattle.rules.specs.LineFirst as first;
 ghost use Rattle.exports.specs.Answers.{plainly, inOneWord, asEight, MatchFits};
 ghost use Rattle.exports.specs.Calls.{RuleCheckAnswered, LineAllAnswered, LineFirstAnswered};
+ghost use Rattle.exports.specs.Calls.{ScanAllAnswered, ScanFirstAnswered};
 
 // The value: the number of rules.
 #[no_mangle]
@@ -38,6 +39,28 @@ pub extern "C" fn wick_line_first(rules: &[u32], header: &[u32], answer: &mut [u
     ensures { λ _. ⌜ LineFirstAnswered (now (rules .entry)) (now (header .entry)) (now (answer .exit)) ⌝ }
 {
     *answer = of_first(rules::line::line_first(rules, header));
+}
+
+// The value: how many numbers were written to `out`.
+#[no_mangle]
+pub extern "C" fn wick_scan_all(
+    rules: &[u32],
+    header: &[u32],
+    out: &mut [u32],
+    answer: &mut [u64; 8],
+)
+    ensures { λ _. ⌜ ScanAllAnswered (now (rules .entry)) (now (header .entry)) (now (out .entry)) (now (out .exit))
+        (now (answer .exit)) ⌝ }
+{
+    *answer = of_listed(rules::line::scan_all(rules, header, out));
+}
+
+// The value: the lowest number that matches and one more, or 0.
+#[no_mangle]
+pub extern "C" fn wick_scan_first(rules: &[u32], header: &[u32], answer: &mut [u64; 8])
+    ensures { λ _. ⌜ ScanFirstAnswered (now (rules .entry)) (now (header .entry)) (now (answer .exit)) ⌝ }
+{
+    *answer = of_first(rules::line::scan_first(rules, header));
 }
 
 fn of_checked(said: Checked) -> [u64; 8]

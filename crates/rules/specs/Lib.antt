@@ -6,4 +6,5 @@ pub mod Lacking
 pub mod RuleCheck
 pub mod LineAll
 pub mod LineFirst
-pub mod LineSteps
+pub mod Scan
+pub mod ScanSteps

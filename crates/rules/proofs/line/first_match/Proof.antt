@@ -4,34 +4,41 @@ use Prim.Native.Nat.{_≤_, _-_}
 use native.Mathlib.Nat.{sub-zero}
 use native.Mathlib.Omega.{arith}
 use mathlib.Core.Path.{_≡_, refl, sym, _∙_}
+use denote.Ref.{now}
+use borrow.Author.Needs.{needs}
 use Rattle.facts.specs.Lists.{upFrom}
 use Rattle.facts.proofs.Steps.{up-step, up-end}
 use Rattle.facts.proofs.Seeking.{NoneYet, none-first, first-found, none-step, none-last}
-use Rattle.rules.specs.Words.{ruleCount}
-use Rattle.rules.specs.Matching.{matches, matching}
-use Rattle.rules.proofs.Searches.{found-first, found-none}
+use Rattle.rules.specs.Matching.{matches}
+use Rattle.rules.specs.Scan.{scanCount, scanned}
+use Rattle.rules.proofs.Searches.{scan-count-at-most, found-first, found-none}
 use Rattle.rules.proofs.line.first_match.Statement.{statement}
 use Rattle.rules.proofs.line.first_match.Tie as tie
 
 abbrev Inv-loop : tie.InvT-loop
 Inv-loop rules header count r₀ r =
-    (count ≡ ruleCount rules) × (r ≤ ruleCount rules) ×
-    NoneYet (matches rules header) (upFrom 0 (ruleCount rules)) (upFrom r (ruleCount rules - r))
+    (count ≡ scanCount rules) × (r ≤ scanCount rules) ×
+    NoneYet (matches rules header) (upFrom 0 (scanCount rules)) (upFrom r (scanCount rules - r))
 
 abbrev μ-loop : tie.MeasureT-loop
-μ-loop rules header count r₀ r = ruleCount rules - r
+μ-loop rules header count r₀ r = scanCount rules - r
+
+scan-count-requires : tie.Need-scan-count-requires Inv-loop μ-loop
+scan-count-requires c κs = search needs
 
 loop-holds : tie.Need-loop-holds Inv-loop μ-loop
-loop-holds c = (refl, omega arith, rw sub-zero (none-first _ _))
+loop-holds c = (c .scan-count .ensures, omega arith, rw sub-zero (none-first _ _))
 
 matches-requires : tie.Need-matches-requires Inv-loop μ-loop
-matches-requires c κs = (omega arith, c .before .before .before .before .pre)
+matches-requires c κs =
+    let start = c .before .before .before .before .before in
+    (omega (arith, scan-count-at-most (now (start .args .rules))), start .pre)
 
 returns : tie.Need-returns Inv-loop μ-loop
-unfolding matching
+unfolding scanned
 returns c =
     let h = c .before .before .before in
-    let step = up-step (ruleCount (h .before .before .before .args .rules .now)) (h .loop .r) (omega arith) in
+    let step = up-step (scanCount (now (h .before .before .before .before .args .rules))) (h .loop .r) (omega arith) in
     found-first _ _ (first-found (h .loop .inv .2) step (sym (c .before .matches .ensures) ∙ c .if1 .taken))
 
 add-r : tie.Need-add-r Inv-loop μ-loop
@@ -43,11 +50,11 @@ loop-less c = omega arith
 loop-again : tie.Need-loop-again Inv-loop μ-loop
 loop-again c =
     let h = c .before .before .before in
-    let step = up-step (ruleCount (h .before .before .before .args .rules .now)) (h .loop .r) (omega arith) in
-    (refl, omega arith, none-step (h .loop .inv .2) step (sym (c .before .matches .ensures) ∙ c .if1 .left))
+    let step = up-step (scanCount (now (h .before .before .before .before .args .rules))) (h .loop .r) (omega arith) in
+    (h .loop .inv .0, omega arith, none-step (h .loop .inv .2) step (sym (c .before .matches .ensures) ∙ c .if1 .left))
 
 returns-2 : tie.Need-returns-2 Inv-loop μ-loop
-unfolding matching
+unfolding scanned
 returns-2 c = found-none _ _ (none-last (c .before .loop .inv .2) (up-end _ _ (omega arith)))
 
 pub first-match-spec : {M : Type 1} → statement M
@@ -56,6 +63,7 @@ first-match-spec =
     (tie.spec
     Inv-loop
     μ-loop
+    scan-count-requires
     loop-holds
     matches-requires
     returns

@@ -5,32 +5,40 @@ use native.Mathlib.Nat.{sub-zero}
 use native.Mathlib.Omega.{arith}
 use mathlib.Core.Path.{_≡_, refl, sym, _∙_}
 use mathlib.Core.Logic.{⊎-elim}
+use denote.Ref.{now}
 use borrow.Author.Needs.{needs}
 use Rattle.facts.specs.Lists.{upFrom}
 use Rattle.facts.proofs.Steps.{up-step, up-end}
 use Rattle.facts.proofs.Filling.{Filled, filled-first, filled-size, filled-in, filled-out, filled-last}
-use Rattle.rules.specs.Words.{ruleCount}
 use Rattle.rules.specs.Matching.{matches}
+use Rattle.rules.specs.Scan.{scanCount}
+use Rattle.rules.proofs.Searches.{scan-count-at-most, scan-count-fits}
 use Rattle.rules.proofs.line.store_matches.Statement.{statement}
 use Rattle.rules.proofs.line.store_matches.Tie as tie
 
 abbrev Inv-loop : tie.InvT-loop
 Inv-loop rules header out₀ count n₀ r₀ out n r =
-    (count ≡ ruleCount rules) × (r ≤ ruleCount rules) × (n ≤ r) ×
-    Filled (matches rules header) (upFrom 0 (ruleCount rules)) (upFrom r (ruleCount rules - r)) out₀ out n
+    (count ≡ scanCount rules) × (r ≤ scanCount rules) × (n ≤ r) ×
+    Filled (matches rules header) (upFrom 0 (scanCount rules)) (upFrom r (scanCount rules - r)) out₀ out n
 
 abbrev μ-loop : tie.MeasureT-loop
-μ-loop rules header out₀ count n₀ r₀ out n r = ruleCount rules - r
+μ-loop rules header out₀ count n₀ r₀ out n r = scanCount rules - r
+
+scan-count-requires : tie.Need-scan-count-requires Inv-loop μ-loop
+scan-count-requires c κs = search needs
 
 loop-holds : tie.Need-loop-holds Inv-loop μ-loop
-loop-holds c = (refl, omega arith, omega arith, rw sub-zero (filled-first _ _ _))
+loop-holds c = (c .scan-count .ensures, omega arith, omega arith, rw sub-zero (filled-first _ _ _))
 
 matches-requires : tie.Need-matches-requires Inv-loop μ-loop
-matches-requires c κs = (omega arith, c .before .before .before .before .before .pre .five)
+matches-requires c κs =
+    let start = c .before .before .before .before .before .before in
+    (omega (arith, scan-count-at-most (now (start .args .rules))), start .pre)
 
 cast-store : tie.Need-cast-store Inv-loop μ-loop
 cast-store c =
-    omega (arith, c .before .before .before .before .before .before .before .before .pre .few)
+    let start = c .before .before .before .before .before .before .before .before .before in
+    omega (arith, scan-count-fits (now (start .args .rules)))
 
 store-requires : tie.Need-store-requires Inv-loop μ-loop
 store-requires c κs = search needs
@@ -47,18 +55,18 @@ loop-less c = omega arith
 loop-again : tie.Need-loop-again Inv-loop μ-loop
 loop-again c =
     let h = c .before .before .before in
-    let rules = h .before .before .before .before .args .rules .now in
-    let step = up-step (ruleCount rules) (h .loop .r) (omega arith) in
+    let rules = now (h .before .before .before .before .before .args .rules) in
+    let step = up-step (scanCount rules) (h .loop .r) (omega arith) in
     let said = sym (c .before .matches .ensures) in
     ⊎-elim
     (λ w. (
-      refl,
+      h .loop .inv .0,
       omega arith,
       omega (arith, w .6),
       rw (w .5, w .6) (filled-in (h .loop .inv .3) step (said ∙ w .0 .taken) (w .2 .ensures)),
     ))
     (λ w. (
-      refl,
+      h .loop .inv .0,
       omega arith,
       omega (arith, w .2),
       rw (w .1, w .2) (filled-out (h .loop .inv .3) step (said ∙ w .0 .left)),
@@ -77,6 +85,7 @@ store-matches-spec =
     (tie.spec
     Inv-loop
     μ-loop
+    scan-count-requires
     loop-holds
     matches-requires
     cast-store

@@ -1,0 +1,114 @@
+//! What is counted: the definitions with who cites each, the functions, and the lines.
+
+use std::collections::{HashMap, HashSet};
+
+use crate::code::{self, Function};
+use crate::names::Scope;
+use crate::specs::{self, Definition};
+use crate::tree::Crate;
+
+pub struct Counts {
+    pub crates: Vec<Crate>,
+    pub definitions: Vec<Definition>,
+    pub functions: Vec<Function>,
+    /// The public calls, as places in `functions`.
+    pub calls: Vec<usize>,
+    /// Who cites each definition first, itself or through others: 0 the public calls, 1 the claims besides, 2 other
+    /// public functions, 3 proofs alone.
+    pub columns: Vec<usize>,
+}
+
+impl Counts {
+    pub fn new(crates: Vec<Crate>) -> Result<Counts, String> {
+        let mut definitions = Vec::new();
+        let mut functions = Vec::new();
+        for one in &crates {
+            for (file, text) in &one.specs {
+                definitions.extend(specs::definitions(&one.name, file, text)?);
+            }
+            for (file, text) in &one.code {
+                definitions.extend(code::types(&one.name, file, text));
+                functions.extend(code::functions(&one.name, file, text));
+            }
+        }
+        let calls = calls(&crates, &functions)?;
+        let mut counts = Counts { crates, definitions, functions, calls, columns: Vec::new() };
+        counts.columns = counts.reached();
+        let asks = counts.public().find(|one| one.requires);
+        asks.map_or(Ok(()), |one| {
+            Err(format!("{}::{}::{} is public and has a requires", one.krate, one.file, one.name))
+        })?;
+        Ok(counts)
+    }
+
+    fn reached(&self) -> Vec<usize> {
+        let known = self.definitions.iter().enumerate();
+        let places: HashMap<&String, usize> =
+            known.flat_map(|(at, one)| one.paths.iter().map(move |path| (path, at))).collect();
+        let of_calls = self.calls.iter().flat_map(|at| &self.functions[*at].cites).collect();
+        let claims = self.definitions.iter().filter(|one| one.krate == "claims").flat_map(|one| &one.paths).collect();
+        let of_others = self.public().flat_map(|one| &one.cites).collect();
+        let mut columns = vec![3; self.definitions.len()];
+        for (column, cited) in [of_calls, claims, of_others].into_iter().enumerate() {
+            let mut cited: Vec<&String> = cited;
+            while let Some(path) = cited.pop() {
+                if let Some(at) = places.get(path).filter(|at| column < columns[**at]) {
+                    columns[*at] = column;
+                    cited.extend(&self.definitions[*at].cites);
+                }
+            }
+        }
+        columns
+    }
+
+    /// The public functions of the libraries.
+    pub fn public(&self) -> impl Iterator<Item = &Function> {
+        self.functions.iter().filter(|one| one.public && !self.is_program(&one.krate))
+    }
+
+    pub fn is_program(&self, krate: &str) -> bool {
+        self.crates.iter().any(|one| one.name == krate && one.is_program())
+    }
+
+    /// The definitions of `specs/` that have these paths, each once.
+    pub fn cited<'a>(&'a self, paths: &'a [String]) -> impl Iterator<Item = &'a Definition> {
+        let mut seen = HashSet::new();
+        let once = paths.iter().filter(move |path| seen.insert(*path));
+        once.filter_map(|path| self.definitions.iter().find(|one| !one.of_code && one.paths.contains(path)))
+    }
+
+    /// The lines of the definitions for which the test holds.
+    pub fn lines(&self, holds: impl Fn(&Definition, usize) -> bool) -> usize {
+        let own = self.definitions.iter().zip(&self.columns).filter(|(one, column)| holds(one, **column));
+        own.map(|(one, _)| one.lines).sum()
+    }
+
+    /// The lines of code of the crates for which the test holds.
+    pub fn code_lines(&self, holds: impl Fn(&Crate) -> bool) -> usize {
+        let texts = self.crates.iter().filter(|one| holds(one)).flat_map(|one| one.code.values());
+        texts.map(|text| code::lines(text).len()).sum()
+    }
+
+    /// All lines of `proofs/`.
+    pub fn proof_lines(&self) -> usize {
+        self.crates.iter().flat_map(|one| one.proofs.values()).map(|text| text.lines().count()).sum()
+    }
+
+    pub fn edits(&self) -> usize {
+        self.crates.iter().map(|one| one.edits.len()).sum()
+    }
+}
+
+/// The functions that the claim `Code` names, as `in-rules.check.rule_check.Statement.statement`.
+fn calls(crates: &[Crate], functions: &[Function]) -> Result<Vec<usize>, String> {
+    let claims = crates.iter().find(|one| one.name == "claims").and_then(|one| one.specs.get("Demand1"));
+    let claims = claims.ok_or("there is no crates/claims/specs/Demand1.antt")?;
+    let named = Scope::of(claims, "use ").paths(claims);
+    let statements = named.iter().filter_map(|path| path.strip_suffix(".Statement.statement"));
+    let place = |path: &str| {
+        let its = |one: &Function| format!("{}.proofs.{}.{}", one.krate, one.file.replace('/', "."), one.name);
+        let is = |one: &Function| one.public && path == its(one);
+        functions.iter().position(is).ok_or(format!("Demand1.antt names {path}, which is no public function"))
+    };
+    statements.map(place).collect()
+}

@@ -1,0 +1,165 @@
+//! A small tree, and what must be counted of it.
+
+use std::collections::BTreeMap;
+
+use crate::counts::Counts;
+use crate::pages;
+use crate::tree::Crate;
+
+/// `call` promises `Kept`, which rests on `low`; a claim rests on `high`, another public function cites `other`, and a
+/// private one `step`.
+const SPECS: &str = "\
+-- A comment.
+use lib.Dec.{leb}
+use Rattle.low.specs.declared.code.Answer.the-variants as answer
+infixr 20 _then_
+
+abbrev pub low : ℕ
+low = 1
+
+pub data Kept (n : ℕ) : Type 0 where
+  kept :
+      n ≡ low → Kept n
+  -- no line of the definition
+  lost : Kept n
+
+module _ (F : ℕ) where
+  unfoldable pub _then_ : ℕ → ℕ
+  answer.Yes then w = w
+
+abbrev pub high : ℕ
+high = 2 then 3
+
+unfoldable pub other : ℕ
+other = low
+
+abbrev pub step : ℕ
+step = other
+";
+
+const CODE: &str = "\
+use std::num;
+ghost use Rattle.low.specs.Words.{kept, low, other, step};
+
+// A comment.
+pub enum Answer {
+    Yes,
+}
+
+pub fn call(
+    low: u32,
+) -> Answer
+    ensures { λ r. ⌜ kept low ≡
+        r ⌝ }
+{
+    Answer::Yes
+}
+
+pub fn more() -> u32
+    ensures { λ r. ⌜ r ≡ other ⌝ }
+{
+    1
+}
+
+fn private(n: u32)
+    requires { ⌜ n ≡ step ⌝ }
+    ensures { λ r. ⌜ r ≡ 1 ⌝ }
+{
+}
+
+pub(crate) fn said() {
+    more();
+}
+";
+
+const CLAIMS: &str = "\
+use Rattle.low.specs as low
+use Rattle.low.proofs as in-low
+
+abbrev pub Code : Type 1
+Code = in-low.code.call.Statement.statement M × low.Words.high
+";
+
+fn tree(claims: &str) -> Vec<Crate> {
+    let file = |name: &str, text: &str| BTreeMap::from([(name.to_string(), text.to_string())]);
+    let low = Crate {
+        name: "low".to_string(),
+        specs: file("Words", SPECS),
+        code: file("code", CODE),
+        proofs: file("code/call/Proof", "-- Why.\n\nyes = no\n"),
+        edits: file("call.no", ""),
+    };
+    vec![low, Crate { name: "claims".to_string(), specs: file("Demand1", claims), ..Crate::default() }]
+}
+
+#[test]
+fn each_definition_counts_with_the_first_who_cites_it() {
+    let counts = Counts::new(tree(CLAIMS)).unwrap();
+    let found = counts.definitions.iter().zip(&counts.columns);
+    let found: Vec<_> = found.map(|(one, column)| (one.name.as_str(), one.lines, *column)).collect();
+    let low = [("low", 2, 0), ("Kept", 4, 0), ("_then_", 2, 1), ("high", 2, 1), ("other", 2, 2), ("step", 2, 3)];
+    assert_eq!(found, [&low[..], &[("Answer", 3, 1), ("Code", 2, 1)]].concat());
+}
+
+#[test]
+fn a_function_has_its_lines_and_what_its_contract_names() {
+    let counts = Counts::new(tree(CLAIMS)).unwrap();
+    let found = counts.functions.iter().map(|one| (one.name.as_str(), one.public, one.lines, one.cites.len()));
+    let all = [("call", true, 8, 1), ("more", true, 5, 1), ("private", false, 5, 1), ("said", false, 3, 0)];
+    assert_eq!(found.collect::<Vec<_>>(), all);
+    assert!(counts.functions[2].ensures.is_empty() && counts.functions[1].ensures == ["low.specs.Words.other"]);
+    assert_eq!(counts.calls, [0]);
+    assert_eq!((counts.code_lines(|_| true), counts.proof_lines(), counts.edits()), (24, 3, 1));
+}
+
+#[test]
+fn a_claim_of_no_public_function_is_refused() {
+    assert!(Counts::new(tree(&CLAIMS.replace("code.call", "code.private"))).is_err());
+    assert!(Counts::new(tree(&CLAIMS.replace("code.call", "line.call"))).is_err());
+}
+
+#[test]
+fn a_public_function_that_asks_something_is_refused() {
+    let mut crates = tree(CLAIMS);
+    crates[0].code.insert("code".to_string(), CODE.replace("fn private", "pub fn private"));
+    assert!(Counts::new(crates).is_err_and(|reason| reason.contains("low::code::private")));
+}
+
+#[test]
+fn a_line_of_no_definition_is_refused() {
+    assert!(Counts::new(tree(&CLAIMS.replace("abbrev pub Code", "  pub Code"))).is_err());
+}
+
+#[test]
+fn a_part_is_written_whole() {
+    let page = "a\n<!-- counted: x -->\nold\n<!-- end of counted -->\nb\n<!-- end of counted -->\n";
+    let made = pages::with_part(page, "x", "new\n").unwrap();
+    assert_eq!(made, page.replace("old", "new"));
+    assert!(pages::with_part(page, "y", "new\n").is_err());
+}
+
+#[test]
+fn the_lines_of_a_file_stand_behind_its_name() {
+    let files = |lines| BTreeMap::from([(("low".to_string(), "Words".to_string()), lines)]);
+    let page = "`high/specs`: `Words` 7. `low/specs`: the `Words`\n9, and `Words`.";
+    assert_eq!(pages::with_files(page, &files(12)).unwrap(), page.replace('9', "12"));
+    assert!(pages::with_files("`low/specs`: `Words`, 9", &files(12)).is_err());
+    assert!(pages::with_files("`low/specs`: nothing", &files(0)).is_ok());
+}
+
+#[test]
+fn the_tables_have_the_counts() {
+    let counts = Counts::new(tree(CLAIMS)).unwrap();
+    assert!(pages::definitions(&counts).contains("| `low` | 6 | 4 | 2 | 2 |\n| `claims` | 0 | 2 | 0 | 0 |\n"));
+    assert!(pages::definitions(&counts).contains("So 12 of 16 lines are to be believed."));
+    assert!(pages::calls(&counts).ends_with("| `call` | `low/src/code.rt` | `Kept` (`low/specs/Words`) |\n"));
+    assert!(pages::gate(&counts).starts_with("    3 passed, 0 failed\n"));
+}
+
+#[test]
+fn what_was_compared_is_taken_from_the_last_lines() {
+    let said =
+        "compare: 1174408 calls agree\ncompare: 53 runs of the program, and the 1000 lines that it wrote, agree\n";
+    assert!(pages::compared(said).unwrap().contains(" 1,174,408 calls; 53 runs, which wrote 1,000 lines."));
+    assert!(pages::compared("compare: 12 calls agree\n").is_err());
+}

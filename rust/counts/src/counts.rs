@@ -94,8 +94,9 @@ impl Counts {
         self.crates.iter().flat_map(|one| one.proofs.values()).map(|text| text.lines().count()).sum()
     }
 
-    pub fn edits(&self) -> usize {
-        self.crates.iter().map(|one| one.edits.len()).sum()
+    /// The names of the wrong answers that the prover must refuse.
+    pub fn edits(&self) -> Vec<&str> {
+        self.crates.iter().flat_map(|one| one.edits.keys()).map(String::as_str).collect()
     }
 }
 

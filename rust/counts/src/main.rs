@@ -24,12 +24,15 @@ use counts::Counts;
 
 const README: &str = "README.md";
 const AUDITOR: &str = "docs/AUDITOR.md";
+const CLAIMS: &str = "docs/CLAIMS.md";
+const EXCEPTIONS: &str = "docs/EXCEPTIONS.md";
+const LIMITS: &str = "docs/LIMITS.md";
 
 fn main() -> ExitCode {
     match run(&env::args().skip(1).collect::<Vec<_>>()) {
         Ok(true) => ExitCode::SUCCESS,
         Ok(false) => {
-            println!("counts: the pages state other counts; .ci/counts --write makes them state these");
+            println!("counts: the pages are not as the tree is; .ci/counts --write writes the counts");
             ExitCode::FAILURE
         }
         Err(reason) => {
@@ -46,9 +49,9 @@ fn run(words: &[String]) -> Result<bool, String> {
         [] => {
             let crates = tree::read(Path::new(".")).map_err(|error| format!("the tree cannot be read: {error}"))?;
             let counts = Counts::new(crates)?;
-            let readme = pages::with_part(&read(README)?, "figures", &pages::figures(&counts));
+            let figures = pages::with_part(&read(README)?, "figures", &pages::figures(&counts));
             let auditor = auditor(&read(AUDITOR)?, &counts);
-            Ok(hold(README, readme, write)? & hold(AUDITOR, auditor, write)?)
+            Ok(hold(README, figures, write)? & hold(AUDITOR, auditor, write)? & names(&counts)?)
         }
         [word, file] if word == "--compared" => {
             let text = pages::compared(&read(file)?)?;
@@ -56,6 +59,21 @@ fn run(words: &[String]) -> Result<bool, String> {
         }
         _ => Err("usage: counts [--write] [--compared FILE]".to_string()),
     }
+}
+
+/// Whether the pages name every public function and every wrong answer, and no wrong answer that is not there.
+fn names(counts: &Counts) -> Result<bool, String> {
+    let public: Vec<&str> = counts.public().map(|one| one.name.as_str()).collect();
+    let (claims, exceptions, limits) = (read(CLAIMS)?, read(EXCEPTIONS)?, read(LIMITS)?);
+    let edits = counts.edits();
+    let all_in = |names: &[&str], others: &[&str], says: String| {
+        let missing = names.iter().filter(|name| !others.contains(name));
+        missing.map(|name| println!("{says} {name}")).count() == 0
+    };
+    Ok(all_in(&public, &pages::named(&exceptions), format!("{EXCEPTIONS} does not name the public function"))
+        & all_in(&edits, &pages::named(&claims), format!("{CLAIMS} does not name the wrong answer"))
+        & all_in(&pages::edits(&claims), &edits, format!("{CLAIMS} names a wrong answer that is not there:"))
+        & all_in(&pages::edits(&limits), &edits, format!("{LIMITS} names a wrong answer that is not there:")))
 }
 
 fn auditor(page: &str, counts: &Counts) -> Result<String, String> {

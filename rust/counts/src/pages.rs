@@ -59,6 +59,19 @@ pub fn files(counts: &Counts) -> BTreeMap<(String, String), usize> {
     files
 }
 
+/// What stands in backticks on a page.
+pub fn named(page: &str) -> Vec<&str> {
+    page.split('`').skip(1).step_by(2).collect()
+}
+
+/// The wrong answers among it, as `line_all.place_is_the_room`.
+pub fn edits(page: &str) -> Vec<&str> {
+    let word = |text: &str| text.chars().all(|c| c.is_ascii_lowercase() || c.is_ascii_digit() || c == '_');
+    let edit =
+        |name: &&str| name.split_once('.').is_some_and(|(call, what)| word(call) && word(what) && what.contains('_'));
+    named(page).into_iter().filter(edit).collect()
+}
+
 fn table(head: &[&str], rows: impl Iterator<Item = Vec<String>>) -> String {
     let cell = |text: &String| format!("| {text} ").replace("|  ", "| ");
     let line = |cells: Vec<String>| cells.iter().map(cell).collect::<String>() + "|\n";
@@ -78,7 +91,7 @@ pub fn figures(counts: &Counts) -> String {
         ("lines of code with its contracts, in the vectors", code("vectors")),
         ("lines of proof, with comments, imports and empty lines", number(counts.proof_lines())),
         ("functions proved", format!("{}, of which {} are public", counts.functions.len(), counts.public().count())),
-        ("wrong answers that the prover refuses", number(counts.edits())),
+        ("wrong answers that the prover refuses", number(counts.edits().len())),
     ];
     table(&["", ""], rows.into_iter().map(|(what, count)| vec![what.to_string(), count]))
 }
@@ -140,7 +153,7 @@ pub fn unread(counts: &Counts) -> String {
 
 /// AUDITOR: the last line of the gate. rt counts each crate that it proved and each edit that it refused.
 pub fn gate(counts: &Counts) -> String {
-    let (crates, edits) = (counts.crates.len(), counts.edits());
+    let (crates, edits) = (counts.crates.len(), counts.edits().len());
     format!("    {} passed, 0 failed\n\nThese are {crates} crates and {edits} wrong answers.\n", crates + edits)
 }
 

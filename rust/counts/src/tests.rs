@@ -109,7 +109,7 @@ fn a_function_has_its_lines_and_what_its_contract_names() {
     assert_eq!(found.collect::<Vec<_>>(), all);
     assert!(counts.functions[2].ensures.is_empty() && counts.functions[1].ensures == ["low.specs.Words.other"]);
     assert_eq!(counts.calls, [0]);
-    assert_eq!((counts.code_lines(|_| true), counts.proof_lines(), counts.edits()), (24, 3, 1));
+    assert_eq!((counts.code_lines(|_| true), counts.proof_lines(), counts.edits()), (24, 3, vec!["call.no"]));
 }
 
 #[test]
@@ -145,6 +145,12 @@ fn the_lines_of_a_file_stand_behind_its_name() {
     assert_eq!(pages::with_files(page, &files(12)).unwrap(), page.replace('9', "12"));
     assert!(pages::with_files("`low/specs`: `Words`, 9", &files(12)).is_err());
     assert!(pages::with_files("`low/specs`: nothing", &files(0)).is_ok());
+}
+
+#[test]
+fn a_wrong_answer_is_known_by_its_form() {
+    assert_eq!(pages::edits("`a_b.c_1`, a.b_c, `a.rt`, `A.b_c`, `a/b.c_d`, `a.b_c`."), ["a_b.c_1", "a.b_c"]);
+    assert_eq!(pages::named("a `b` c `d.e`"), ["b", "d.e"]);
 }
 
 #[test]

@@ -33,15 +33,15 @@ impl Counts {
         }
         let calls = calls(&crates, &functions)?;
         let mut counts = Counts { crates, definitions, functions, calls, columns: Vec::new() };
-        counts.columns = counts.reached();
-        let asks = counts.public().find(|one| one.requires);
-        asks.map_or(Ok(()), |one| {
-            Err(format!("{}::{}::{} is public and has a requires", one.krate, one.file, one.name))
-        })?;
+        counts.columns = counts.reached()?;
+        if let Some(one) = counts.public().find(|one| one.requires) {
+            return Err(format!("{}::{}::{} is public and has a requires", one.krate, one.file, one.name));
+        }
         Ok(counts)
     }
 
-    fn reached(&self) -> Vec<usize> {
+    /// The column of each definition. A path into `specs/` of this tree must mean one that is known.
+    fn reached(&self) -> Result<Vec<usize>, String> {
         let known = self.definitions.iter().enumerate();
         let places: HashMap<&String, usize> =
             known.flat_map(|(at, one)| one.paths.iter().map(move |path| (path, at))).collect();
@@ -52,13 +52,19 @@ impl Counts {
         for (column, cited) in [of_calls, claims, of_others].into_iter().enumerate() {
             let mut cited: Vec<&String> = cited;
             while let Some(path) = cited.pop() {
-                if let Some(at) = places.get(path).filter(|at| column < columns[**at]) {
-                    columns[*at] = column;
-                    cited.extend(&self.definitions[*at].cites);
+                match places.get(path) {
+                    Some(at) if column < columns[*at] => {
+                        columns[*at] = column;
+                        cited.extend(&self.definitions[*at].cites);
+                    }
+                    None if self.crates.iter().any(|one| path.starts_with(&format!("{}.specs.", one.name))) => {
+                        return Err(format!("{path} is cited, and no such definition is found"));
+                    }
+                    _ => {}
                 }
             }
         }
-        columns
+        Ok(columns)
     }
 
     /// The public functions of the libraries.

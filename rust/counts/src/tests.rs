@@ -126,6 +126,12 @@ fn a_public_function_that_asks_something_is_refused() {
 }
 
 #[test]
+fn a_definition_that_is_not_found_is_refused() {
+    let lost = Counts::new(tree(&CLAIMS.replace("Words.high", "Words.higher")));
+    assert!(lost.is_err_and(|reason| reason.starts_with("low.specs.Words.higher ")));
+}
+
+#[test]
 fn a_line_of_no_definition_is_refused() {
     assert!(Counts::new(tree(&CLAIMS.replace("abbrev pub Code", "  pub Code"))).is_err());
 }

@@ -1,0 +1,14 @@
+/* The integers of stdint.h, for `./archive SOURCE.c PROGRAM`: the kit has no C headers. */
+#ifndef WICK_KIT_STDINT_H
+#define WICK_KIT_STDINT_H
+
+typedef __INT8_TYPE__ int8_t;
+typedef __INT16_TYPE__ int16_t;
+typedef __INT32_TYPE__ int32_t;
+typedef __INT64_TYPE__ int64_t;
+typedef __UINT8_TYPE__ uint8_t;
+typedef __UINT16_TYPE__ uint16_t;
+typedef __UINT32_TYPE__ uint32_t;
+typedef __UINT64_TYPE__ uint64_t;
+
+#endif

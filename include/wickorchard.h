@@ -1,96 +1,180 @@
-/* Wickorchard: five-field packet classification, proved.
+/* Wickorchard: five-field packet classification, proved. docs/PROGRAMMER.md says how to link it, with a whole program.
  *
- * A slice is lent as a pointer and the number of its elements. The pointer is never null, not even for no elements, and
- * is aligned for its type; a slice that is written to overlaps no other that the same call is lent. Beyond that a call
- * takes any words and bytes: it finishes, touches nothing that it was not lent, and on a refusal alters nothing but
- * `answer`.
+ * LENT MEMORY. A slice is lent as a pointer and the number of its elements: words of 32 bits, or bytes. The pointer is
+ * never null, not even for no elements, and is aligned for its type. A slice that is written to overlaps nothing else
+ * that the same call is lent, and neither does the answer. Beyond that a call takes any words and bytes: it finishes,
+ * touches nothing that it was not lent, and on a refusal alters nothing but the answer.
  *
- * Each call writes all eight words of `answer`:
- *     0 number   0 on success, else the refusal's number
- *     1 place    where: a rule, a field, a node, a line, or how much room is needed; 0 on success
- *     2 extra    0 unless the refusal has one; 0 on success
- *     3 4 5      the call's values a, b, c; 0 on a refusal and where a call has no such value
- *     6 7        0
+ * THREADS. A call allocates nothing, has no state of its own and keeps nothing when it returns. So calls may run in any
+ * number of threads at once, as long as nobody writes to memory while a call is lent it. What calls only read may be
+ * lent to many of them at once.
  *
- * The refusals of these calls. Each call names those that it gives, in the order in which they are looked for:
- *     1   rule words not a multiple of ten, or over 5,120; or a tree to write that is for more than 512 rules
- *     2   a rule is not good: place is the lowest such rule
- *     3   header not five words (place 5), or a port or protocol too large (place is the lowest such field)
- *     4   the lent output is too short: place is the number of words or bytes needed, extra 1 where the pool is meant
- *     5   node words none, not a multiple of three, or over 6,141; or a pool over 4,096 words
- *     6   a node is wrong, missing or left over: place is its number
- *     7   a leaf's start, count or entries are wrong: place is its node; or, where the counts of all leaves do not make
- *         the pool, the number of nodes
- *     8   a leaf lacks a rule whose box meets the leaf's box: place is the node of the lowest such leaf, extra the
- *         lowest such rule
- *     9   a line of the text is wrong, or something comes after the end line: place is the line, counted from 1
- *     10  the text stops before its end line: place is the number of whole lines; what follows the last newline is not
- *         read
+ * BYTE ORDER. Every word is a number in this machine's own order. The address a.b.c.d is the number
+ *     a * 2^24 + b * 2^16 + c * 2^8 + d
+ * A packet has its addresses and ports in network order: put them through ntohl and ntohs first. Without that they are
+ * other addresses and other ports: no call refuses them for that, and the answer is wrong.
+ *
+ * A RULE is ten words (WICK_RULE_WORDS):
+ *     0  source address                       1  its length: how many of the first bits count, 0 to 32
+ *     2  destination address                  3  its length
+ *     4  lowest source port                   5  highest source port
+ *     6  lowest destination port              7  highest destination port
+ *     8  lowest protocol                      9  highest protocol
+ * It is good if each length is at most 32, the address bits past the length are 0, no low end is over its high end,
+ * ports are at most 65,535 and protocols at most 255. A list is up to WICK_MOST_RULES rules, one after another. They
+ * are numbered from 0, and of the rules that match a header the lowest number decides.
+ *
+ * A HEADER is five words (WICK_HEADER_WORDS), fields 0 to 4: source address, destination address, source port,
+ * destination port, protocol. Ports are at most 65,535, the protocol is at most 255. A packet without ports has 0 for
+ * both.
+ *
+ * A TREE is its nodes, numbered from 0, and a pool of rule numbers. The root is node 0. A node is three words
+ * (WICK_NODE_WORDS):
+ *     cut    0  a field, 0 to 4       1  a value                             2  the number of the right child
+ *     leaf   0  WICK_LEAF             1  where its entries start in the pool 2  how many they are
+ * At a cut, a header whose field is at most the value goes on to the next node, and any other to the right child. At a
+ * leaf, the header is compared with the rules that the entries name.
+ *
+ * UNCHECKED TREES. The two tree searches answer by the tree as it is. By a tree that is wrong for the rules they may
+ * give a WRONG ANSWER WITHOUT A REFUSAL. Search only a tree that wick_tree_check has accepted, with the same rules,
+ * nodes and pool, unchanged since. A tree that wick_tree_read has read is not checked by that.
  */
 #ifndef WICKORCHARD_H
 #define WICKORCHARD_H
+
+#if defined __has_include
+#if !__has_include(<stdint.h>)
+#define WICK_NO_STDINT /* a compiler without C headers, as the kit's is */
+#endif
+#endif
+#ifdef WICK_NO_STDINT
+typedef __UINT8_TYPE__ uint8_t;
+typedef __UINT32_TYPE__ uint32_t;
+typedef __UINT64_TYPE__ uint64_t;
+#else
+#include <stdint.h>
+#endif
 
 #ifdef __cplusplus
 extern "C" {
 #endif
 
-typedef __UINT8_TYPE__ wick_byte;
-typedef __UINT32_TYPE__ wick_word;
-typedef __UINT64_TYPE__ wick_count;
+/* What a call answers. Each call writes all eight words. It names those of a to e that it gives; the others are 0. On a
+ * refusal a to e are all 0. */
+typedef struct wick_answer {
+    uint64_t number; /* 0 where the call completed, else the refusal's number */
+    uint64_t place;  /* where: a rule, a field, a node, a line, or how much room is needed; 0 where it completed */
+    uint64_t extra;  /* 0 unless the refusal has one; 0 where it completed */
+    uint64_t a, b, c, d, e;
+} wick_answer;
+
+/* The numbers of the refusals. Each call names those that it gives, in the order in which they are looked for. */
+enum {
+    WICK_COMPLETED = 0,
+    /* Rule words not a multiple of ten, or over 5,120; or a tree to write that is for more than 512 rules. */
+    WICK_RULE_WORDS_WRONG = 1,
+    /* A rule is not good: place is the lowest such rule. */
+    WICK_RULE_NOT_GOOD = 2,
+    /* The header is not five words: place 5. Or a port or the protocol is too large: place is the lowest such field. */
+    WICK_HEADER_WRONG = 3,
+    /* The lent output is too short: place is how many words or bytes are needed; extra is 1 where the pool is meant. */
+    WICK_OUTPUT_SHORT = 4,
+    /* Node words none, not a multiple of three, or over 6,141; or a pool over 4,096 words. */
+    WICK_TREE_WORDS_WRONG = 5,
+    /* A node is wrong, missing or left over: place is its number. */
+    WICK_NODE_WRONG = 6,
+    /* A leaf's start, count or entries are wrong: place is its node; or, where the counts of all leaves do not make the
+     * pool, the number of nodes. */
+    WICK_LEAF_WRONG = 7,
+    /* A leaf lacks a rule whose box meets the leaf's box, so some header would get a wrong list: place is the node of
+     * the lowest such leaf, extra the lowest such rule. */
+    WICK_LEAF_LACKS_RULE = 8,
+    /* A line of the text is wrong, or something comes after the end line: place is the line, counted from 1. */
+    WICK_LINE_WRONG = 9,
+    /* The text stops before its end line: place is the number of whole lines; what follows the last newline is not
+     * read. */
+    WICK_TEXT_STOPS = 10,
+    /* No call gives this. The program does, for a file that cannot be read to its end or is over 65,536 bytes. */
+    WICK_FILE_NOT_READ = 12
+};
+
+/* The limits, and the words of what is lent. */
+enum {
+    WICK_RULE_WORDS = 10,
+    WICK_HEADER_WORDS = 5,
+    WICK_NODE_WORDS = 3,
+    WICK_LEAF = 5, /* the first word of a leaf */
+    WICK_ADDRESS_BITS = 32,
+    WICK_LARGEST_PORT = 65535,
+    WICK_LARGEST_PROTOCOL = 255,
+    WICK_MOST_RULES = 512,
+    WICK_MOST_RULE_WORDS = 5120,
+    WICK_MOST_NODES = 2047,
+    WICK_MOST_NODE_WORDS = 6141,
+    WICK_MOST_POOL_WORDS = 4096,
+    WICK_MOST_CUTS = 63,         /* above a leaf of a tree that the check accepts */
+    WICK_MOST_FILE_BYTES = 65536 /* of a file of the program; no good list or accepted tree has a longer text */
+};
 
 /* Is the list good? Refuses with 1, 2. a: the number of rules. */
-void wick_rule_check(const wick_word *rules, wick_count rules_len, wick_count answer[8]);
+void wick_rule_check(const uint32_t *rules, uint64_t rules_len, wick_answer *answer);
 
-/* Searches the list line by line for every rule that matches. Refuses with 1, 2, 3, 4. Writes the numbers that match to
- * the front of `out`, rising; the rest of `out` is as found. a: how many it wrote. */
-void wick_line_all(const wick_word *rules, wick_count rules_len, const wick_word *header, wick_count header_len,
-                   wick_word *out, wick_count out_len, wick_count answer[8]);
+/* Judges the list, then searches it line by line for every rule that matches. Refuses with 1, 2, 3, 4. Writes the
+ * numbers that match to the front of `out`, rising; the rest of `out` is as found. WICK_MOST_RULES words are always
+ * enough. a: how many it wrote. */
+void wick_line_all(const uint32_t *rules, uint64_t rules_len, const uint32_t *header, uint64_t header_len,
+                   uint32_t *out, uint64_t out_len, wick_answer *answer);
 
-/* Searches the list line by line for the lowest rule that matches. Refuses with 1, 2, 3. a: the rule's number + 1, or 0
- * where none matches. */
-void wick_line_first(const wick_word *rules, wick_count rules_len, const wick_word *header, wick_count header_len,
-                     wick_count answer[8]);
+/* Judges the list, then searches it line by line for the lowest rule that matches. Refuses with 1, 2, 3. a: the rule's
+ * number + 1, or 0 where none matches. */
+void wick_line_first(const uint32_t *rules, uint64_t rules_len, const uint32_t *header, uint64_t header_len,
+                     wick_answer *answer);
 
-/* Searches the tree for every rule of the reached leaf that matches. It takes any words, judged or not. Refuses with 3,
- * 6, 7, 4. Writes the numbers that match to the front of `out`, as the leaf lists them; the rest of `out` is as found.
- * a: how many it wrote, b: the nodes visited, with root and leaf, and c: the entries compared. */
-void wick_tree_all(const wick_word *rules, wick_count rules_len, const wick_word *nodes, wick_count nodes_len,
-                   const wick_word *pool, wick_count pool_len, const wick_word *header, wick_count header_len,
-                   wick_word *out, wick_count out_len, wick_count answer[8]);
+/* Searches the tree for every rule of the reached leaf that matches. WARNING: it takes any words and judges neither the
+ * list nor the tree. Search only a tree that wick_tree_check has accepted for these rules: see UNCHECKED TREES. Refuses
+ * with 3, 6, 7, 4. Writes the numbers that match to the front of `out`, as the leaf lists them; the rest of `out` is as
+ * found. By an accepted tree WICK_MOST_RULES words are always enough. a: how many it wrote, b: the nodes visited, with
+ * root and leaf, and c: the entries compared. */
+void wick_tree_all(const uint32_t *rules, uint64_t rules_len, const uint32_t *nodes, uint64_t nodes_len,
+                   const uint32_t *pool, uint64_t pool_len, const uint32_t *header, uint64_t header_len,
+                   uint32_t *out, uint64_t out_len, wick_answer *answer);
 
-/* Searches the tree for the first rule of the reached leaf that matches. It takes any words, judged or not. Refuses
- * with 3, 6, 7. a: the rule's number + 1, or 0 where none matches, b: the nodes visited, with root and leaf, and c: the
- * entries compared, up to and with the match. */
-void wick_tree_first(const wick_word *rules, wick_count rules_len, const wick_word *nodes, wick_count nodes_len,
-                     const wick_word *pool, wick_count pool_len, const wick_word *header, wick_count header_len,
-                     wick_count answer[8]);
+/* Searches the tree for the first rule of the reached leaf that matches. WARNING: it takes any words and judges neither
+ * the list nor the tree. Search only a tree that wick_tree_check has accepted for these rules: see UNCHECKED TREES.
+ * Refuses with 3, 6, 7. a: the rule's number + 1, or 0 where none matches, b: the nodes visited, with root and leaf,
+ * and c: the entries compared, up to and with the match. */
+void wick_tree_first(const uint32_t *rules, uint64_t rules_len, const uint32_t *nodes, uint64_t nodes_len,
+                     const uint32_t *pool, uint64_t pool_len, const uint32_t *header, uint64_t header_len,
+                     wick_answer *answer);
 
-/* Is the tree well formed, and does it give every header the list that the line search gives? Refuses with 1, 2, 5,
- * then 6 or 7 at the first fault, then 8. a: the most cuts above a leaf, and b: the entries of the longest leaf. */
-void wick_tree_check(const wick_word *rules, wick_count rules_len, const wick_word *nodes, wick_count nodes_len,
-                     const wick_word *pool, wick_count pool_len, wick_count answer[8]);
+/* Is the tree well formed, and does it give every header the list that the line search gives? Where it completes, the
+ * tree is accepted for these rules. Refuses with 1, 2, 5, then 6 or 7 at the first fault, then 8. a: the most cuts
+ * above a leaf, and b: the entries of the longest leaf. */
+void wick_tree_check(const uint32_t *rules, uint64_t rules_len, const uint32_t *nodes, uint64_t nodes_len,
+                     const uint32_t *pool, uint64_t pool_len, wick_answer *answer);
 
 /* Writes the list as a rules file. Refuses with 1, 2, 4. Writes the file's bytes to the front of `text`; the rest of
- * `text` is as found. a: how many bytes it wrote. */
-void wick_rules_write(const wick_word *rules, wick_count rules_len, wick_byte *text, wick_count text_len,
-                      wick_count answer[8]);
+ * `text` is as found. WICK_MOST_FILE_BYTES bytes are always enough. a: how many bytes it wrote. */
+void wick_rules_write(const uint32_t *rules, uint64_t rules_len, uint8_t *text, uint64_t text_len, wick_answer *answer);
 
 /* Reads a rules file, which is the whole of `text`. Refuses with 9 or 10 at the first fault, then 4. Writes ten words
- * for each rule to the front of `rules`; the rest of `rules` is as found. a: the number of rules. */
-void wick_rules_read(const wick_byte *text, wick_count text_len, wick_word *rules, wick_count rules_len,
-                     wick_count answer[8]);
+ * for each rule to the front of `rules`; the rest of `rules` is as found. WICK_MOST_RULE_WORDS words are always enough.
+ * What it has read is a good list. a: the number of rules. */
+void wick_rules_read(const uint8_t *text, uint64_t text_len, uint32_t *rules, uint64_t rules_len, wick_answer *answer);
 
 /* Writes the tree, which is for a list of `rule_count` rules, as a tree file. Refuses with 1, 5, then 6 or 7 at the
  * first node that is wrong in itself, then 4; whether the tree is well formed is the check's to say. Writes the file's
  * bytes to the front of `text`; the rest of `text` is as found. a: how many bytes it wrote. */
-void wick_tree_write(wick_count rule_count, const wick_word *nodes, wick_count nodes_len, const wick_word *pool,
-                     wick_count pool_len, wick_byte *text, wick_count text_len, wick_count answer[8]);
+void wick_tree_write(uint64_t rule_count, const uint32_t *nodes, uint64_t nodes_len, const uint32_t *pool,
+                     uint64_t pool_len, uint8_t *text, uint64_t text_len, wick_answer *answer);
 
 /* Reads a tree file, which is the whole of `text`. Refuses with 9 or 10 at the first fault, then 4, for `nodes` before
  * `pool`. Writes three words for each node to the front of `nodes` and the leaf entries to the front of `pool`; the
- * rest of both is as found. a: the number of rules that the tree is for, b: of nodes, and c: of pool words. */
-void wick_tree_read(const wick_byte *text, wick_count text_len, wick_word *nodes, wick_count nodes_len, wick_word *pool,
-                    wick_count pool_len, wick_count answer[8]);
+ * rest of both is as found. WICK_MOST_NODE_WORDS and WICK_MOST_POOL_WORDS words are always enough. What it has read
+ * must be checked before it is searched: see UNCHECKED TREES. a: the number of rules that the tree is for, b: of nodes,
+ * and c: of pool words. */
+void wick_tree_read(const uint8_t *text, uint64_t text_len, uint32_t *nodes, uint64_t nodes_len, uint32_t *pool,
+                    uint64_t pool_len, wick_answer *answer);
 
 #ifdef __cplusplus
 }

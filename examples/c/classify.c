@@ -4,103 +4,94 @@
 //
 // The list is read first. Then the tree, which may serve only if the check accepts it for this list; otherwise the list
 // answers, line by line. The answers are the same.
-//
-// The kit that compiles this has no C headers, so of the C library all that is used is declared here.
 
-#include "../../include/wickorchard.h"
+#include <stdio.h>
 
-int open(const char *path, int flags, ...);
-long read(int file, void *to, wick_count size);
-int close(int file);
-int printf(const char *format, ...);
-int dprintf(int file, const char *format, ...);
-int snprintf(char *to, wick_count size, const char *format, ...);
-int sscanf(const char *text, const char *format, ...);
-
-enum { MOST_RULES = 512, MOST_NODES = 2047, MOST_ENTRIES = 4096, MOST_BYTES = 65536 };
-enum { STANDARD_ERROR = 2 };
-enum { NUMBER, PLACE, EXTRA, A, B, C }; // the words of an answer
-enum { FILE_NOT_READ = 12 };            // the refusal of a file that cannot be read to its end, or is too long
+#include "wickorchard.h"
 
 struct policy {
-    wick_word rules[10 * MOST_RULES];
-    wick_word nodes[3 * MOST_NODES];
-    wick_word pool[MOST_ENTRIES];
-    wick_count rules_len, nodes_len, pool_len;
+    uint32_t rules[WICK_MOST_RULE_WORDS];
+    uint32_t nodes[WICK_MOST_NODE_WORDS];
+    uint32_t pool[WICK_MOST_POOL_WORDS];
+    uint64_t rules_len, nodes_len, pool_len;
     int tree_serves; // only once the check has accepted the tree for these rules
 };
 
 static struct policy policy;
-static wick_byte text[MOST_BYTES + 1];
+static uint8_t text[WICK_MOST_FILE_BYTES + 1];
 
 // Reads a file of the folder into `text`. Gives its length, or -1 where it cannot be read to its end, or is too long:
 // it is never taken for an empty or a shorter one.
 static long read_file(const char *folder, const char *name) {
     char path[4096];
     if (snprintf(path, sizeof path, "%s/%s", folder, name) >= (int)sizeof path) return -1;
-    int file = open(path, 0);
-    if (file < 0) return -1;
-    long length = 0, part;
-    do {
-        part = read(file, text + length, sizeof text - length);
-        if (part > 0) length += part;
-    } while (part > 0 && length <= MOST_BYTES);
-    close(file);
-    return part < 0 || length > MOST_BYTES ? -1 : length;
+    FILE *file = fopen(path, "rb");
+    if (!file) return -1;
+    size_t length = fread(text, 1, sizeof text, file);
+    int failed = ferror(file);
+    fclose(file);
+    return failed || length > WICK_MOST_FILE_BYTES ? -1 : (long)length;
 }
 
-static void print_refusal(const wick_count answer[8]) {
-    printf("refused with %lu, place %lu, extra %lu\n", answer[NUMBER], answer[PLACE], answer[EXTRA]);
+static unsigned long number(uint64_t word) {
+    return (unsigned long)word;
+}
+
+static void print_refusal(const wick_answer *answer) {
+    printf("refused with %lu, place %lu, extra %lu\n", number(answer->number), number(answer->place),
+           number(answer->extra));
 }
 
 static void print_unread(const char *name) {
-    dprintf(STANDARD_ERROR, "classify: %s cannot be read to its end, or is over %d bytes\n", name, MOST_BYTES);
+    fprintf(stderr, "classify: %s cannot be read to its end, or is over %d bytes\n", name, WICK_MOST_FILE_BYTES);
 }
 
 // Reads the list. Gives 0 where there is none.
 static int load_rules(const char *folder) {
-    wick_count answer[8];
     long length = read_file(folder, "rules.txt");
     if (length < 0) {
         print_unread("rules.txt");
         return 0;
     }
-    wick_rules_read(text, length, policy.rules, 10 * MOST_RULES, answer);
-    if (answer[NUMBER]) {
-        dprintf(STANDARD_ERROR, "classify: rules.txt is refused with %lu, place %lu\n", answer[NUMBER], answer[PLACE]);
+    wick_answer answer;
+    wick_rules_read(text, (uint64_t)length, policy.rules, WICK_MOST_RULE_WORDS, &answer);
+    if (answer.number) {
+        fprintf(stderr, "classify: rules.txt is refused with %lu, place %lu\n", number(answer.number),
+                number(answer.place));
         return 0;
     }
-    policy.rules_len = 10 * answer[A];
-    printf("%lu rules\n", answer[A]);
+    policy.rules_len = WICK_RULE_WORDS * answer.a;
+    printf("%lu rules\n", number(answer.a));
     return 1;
 }
 
 // Reads the tree and checks it. Where its file cannot be read, or it is refused, the list serves.
 static void load_tree(const char *folder) {
-    wick_count answer[8] = {FILE_NOT_READ};
+    wick_answer answer = {WICK_FILE_NOT_READ, 0, 0, 0, 0, 0, 0, 0};
     long length = read_file(folder, "tree.txt");
     if (length < 0) {
         print_unread("tree.txt");
     } else {
-        wick_tree_read(text, length, policy.nodes, 3 * MOST_NODES, policy.pool, MOST_ENTRIES, answer);
+        wick_tree_read(text, (uint64_t)length, policy.nodes, WICK_MOST_NODE_WORDS, policy.pool, WICK_MOST_POOL_WORDS,
+                       &answer);
     }
-    if (!answer[NUMBER]) {
-        policy.nodes_len = 3 * answer[B];
-        policy.pool_len = answer[C];
+    if (!answer.number) {
+        policy.nodes_len = WICK_NODE_WORDS * answer.b;
+        policy.pool_len = answer.c;
         wick_tree_check(policy.rules, policy.rules_len, policy.nodes, policy.nodes_len, policy.pool, policy.pool_len,
-                        answer);
+                        &answer);
     }
-    policy.tree_serves = !answer[NUMBER];
+    policy.tree_serves = !answer.number;
     if (policy.tree_serves) {
-        printf("the tree serves: %lu cuts, longest leaf %lu\n", answer[A], answer[B]);
+        printf("the tree serves: %lu cuts, longest leaf %lu\n", number(answer.a), number(answer.b));
     } else {
         printf("the list serves, since the tree is ");
-        print_refusal(answer);
+        print_refusal(&answer);
     }
 }
 
 // Reads an address a.b.c.d. Gives 0 where it is none.
-static int read_address(const char *from, wick_word *to) {
+static int read_address(const char *from, uint32_t *to) {
     unsigned a, b, c, d;
     char more;
     if (sscanf(from, "%u.%u.%u.%u%c", &a, &b, &c, &d, &more) != 4) return 0;
@@ -109,47 +100,47 @@ static int read_address(const char *from, wick_word *to) {
     return 1;
 }
 
-static int read_number(const char *from, wick_word *to) {
+static int read_number(const char *from, uint32_t *to) {
     char more;
     return sscanf(from, "%u%c", to, &more) == 1;
 }
 
 // Finds all rules that match, and prints them; the first is the lowest.
-static void classify(const wick_word header[5]) {
-    wick_word found[MOST_RULES];
-    wick_count answer[8];
+static void classify(const uint32_t header[WICK_HEADER_WORDS]) {
+    uint32_t found[WICK_MOST_RULES];
+    wick_answer answer;
     if (policy.tree_serves) {
         wick_tree_all(policy.rules, policy.rules_len, policy.nodes, policy.nodes_len, policy.pool, policy.pool_len,
-                      header, 5, found, MOST_RULES, answer);
+                      header, WICK_HEADER_WORDS, found, WICK_MOST_RULES, &answer);
     } else {
-        wick_line_all(policy.rules, policy.rules_len, header, 5, found, MOST_RULES, answer);
+        wick_line_all(policy.rules, policy.rules_len, header, WICK_HEADER_WORDS, found, WICK_MOST_RULES, &answer);
     }
-    if (answer[NUMBER]) {
-        print_refusal(answer);
+    if (answer.number) {
+        print_refusal(&answer);
         return;
     }
-    if (answer[A] == 0) {
+    if (answer.a == 0) {
         printf("no rule\n");
         return;
     }
     printf("rule %u first, of", found[0]);
-    for (wick_count i = 0; i < answer[A]; i++) printf(" %u", found[i]);
+    for (uint64_t i = 0; i < answer.a; i++) printf(" %u", found[i]);
     printf("\n");
 }
 
 int main(int count, char **given) {
     if (count < 2 || (count - 2) % 5 != 0) {
-        dprintf(STANDARD_ERROR, "classify: give a folder, and then five words for each header\n");
+        fprintf(stderr, "classify: give a folder, and then five words for each header\n");
         return 1;
     }
     if (!load_rules(given[1])) return 1;
     load_tree(given[1]);
     for (char **five = given + 2; five < given + count; five += 5) {
-        wick_word header[5];
+        uint32_t header[WICK_HEADER_WORDS];
         int is_read = read_address(five[0], &header[0]) && read_address(five[1], &header[1]);
         for (int field = 2; field < 5; field++) is_read = is_read && read_number(five[field], &header[field]);
         if (!is_read) {
-            dprintf(STANDARD_ERROR, "classify: header %ld is no header\n", (five - given - 2) / 5 + 1);
+            fprintf(stderr, "classify: header %d is no header\n", (int)(five - given - 2) / 5 + 1);
             return 1;
         }
         printf("%s %s %s %s %s: ", five[0], five[1], five[2], five[3], five[4]);

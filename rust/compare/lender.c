@@ -10,11 +10,11 @@
 //
 // The kit that compiles this has no C headers, so of the C library all that is used is declared here.
 
-#include "../../include/wickorchard.h"
+#include "wickorchard.h"
 
-typedef wick_byte u8;
-typedef wick_word u32;
-typedef wick_count u64;
+typedef uint8_t u8;
+typedef uint32_t u32;
+typedef uint64_t u64;
 
 // The C library, and its numbers on x86-64 Linux.
 int open(const char *path, int flags, ...);
@@ -55,7 +55,7 @@ struct request {
 
 // Makes the call that is asked for, and gives its number; gives 0 where there is no such call.
 static u64 make_call(char *arena, const struct request *asked) {
-    u64 *answer = (u64 *)(arena + asked->answer);
+    wick_answer *answer = (wick_answer *)(arena + asked->answer);
     switch (asked->call) {
     case RULE_CHECK:
         wick_rule_check(WORDS(0), answer);

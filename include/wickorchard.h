@@ -130,6 +130,20 @@ void wick_line_all(const uint32_t *rules, uint64_t rules_len, const uint32_t *he
 void wick_line_first(const uint32_t *rules, uint64_t rules_len, const uint32_t *header, uint64_t header_len,
                      wick_answer *answer);
 
+/* As wick_line_all, but the list is not judged. It is for a caller with many headers, who judges the list once, by
+ * wick_rule_check or by reading it with wick_rules_read, and does not change it after that. Refuses with 3, 4. It takes
+ * any words: words past the last whole rule are no rule, and a rule that is not good is compared as it is. Of such a
+ * rule, a length over 32 agrees with nothing, address bits past the length do not count, and a range holds the values
+ * from its low end to its high end, so none where the low end is the higher. It looks at the first 2^32 rules. Writes
+ * the numbers that match to the front of `out`, rising; the rest of `out` is as found. a: how many it wrote. */
+void wick_scan_all(const uint32_t *rules, uint64_t rules_len, const uint32_t *header, uint64_t header_len,
+                   uint32_t *out, uint64_t out_len, wick_answer *answer);
+
+/* As wick_line_first, but the list is not judged: it takes any words, as wick_scan_all does. Refuses with 3. a: the
+ * rule's number + 1, or 0 where none matches. */
+void wick_scan_first(const uint32_t *rules, uint64_t rules_len, const uint32_t *header, uint64_t header_len,
+                     wick_answer *answer);
+
 /* Searches the tree for every rule of the reached leaf that matches. WARNING: it takes any words and judges neither the
  * list nor the tree. Search only a tree that wick_tree_check has accepted for these rules: see UNCHECKED TREES. Refuses
  * with 3, 6, 7, 4. Writes the numbers that match to the front of `out`, as the leaf lists them; the rest of `out` is as

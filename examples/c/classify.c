@@ -2,8 +2,8 @@
 //
 //     classify DIR [SOURCE DESTINATION SOURCE_PORT DESTINATION_PORT PROTOCOL]..
 //
-// The list is read first. Then the tree, which may serve only if the check accepts it for this list; otherwise the list
-// answers, line by line. The answers are the same.
+// The list is read first: what is read is a good list. Then the tree, which may serve only if the check accepts it for
+// this list; otherwise the list answers, line by line. The answers are the same.
 
 #include <stdio.h>
 
@@ -113,7 +113,7 @@ static void classify(const uint32_t header[WICK_HEADER_WORDS]) {
         wick_tree_all(policy.rules, policy.rules_len, policy.nodes, policy.nodes_len, policy.pool, policy.pool_len,
                       header, WICK_HEADER_WORDS, found, WICK_MOST_RULES, &answer);
     } else {
-        wick_line_all(policy.rules, policy.rules_len, header, WICK_HEADER_WORDS, found, WICK_MOST_RULES, &answer);
+        wick_scan_all(policy.rules, policy.rules_len, header, WICK_HEADER_WORDS, found, WICK_MOST_RULES, &answer);
     }
     if (answer.number) {
         print_refusal(&answer);

@@ -42,12 +42,13 @@ int main(int count, char **given) {
         return 2;
     }
 
+    // What is read is a good list, so it can be scanned for any number of headers.
     wick_answer answer;
     wick_rules_read(text, length, rules, WICK_MOST_RULE_WORDS, &answer);
     if (answer.number != WICK_COMPLETED) return refused(&answer);
     uint64_t rules_len = answer.a * WICK_RULE_WORDS;
 
-    wick_line_first(rules, rules_len, header, WICK_HEADER_WORDS, &answer);
+    wick_scan_first(rules, rules_len, header, WICK_HEADER_WORDS, &answer);
     if (answer.number != WICK_COMPLETED) return refused(&answer);
     if (answer.a == 0) {
         printf("no rule\n");

@@ -28,6 +28,8 @@ pub enum Call {
     RulesRead = 8,
     TreeWrite = 9,
     TreeRead = 10,
+    ScanAll = 11,
+    ScanFirst = 12,
 }
 
 impl Call {
@@ -44,6 +46,8 @@ impl Call {
             Call::RulesRead => "wick_rules_read",
             Call::TreeWrite => "wick_tree_write",
             Call::TreeRead => "wick_tree_read",
+            Call::ScanAll => "wick_scan_all",
+            Call::ScanFirst => "wick_scan_first",
         }
     }
 

@@ -90,11 +90,35 @@ impl Bench {
         self.compare(inputs, &[lent_rules, lent_header], answer)
     }
 
+    pub fn scan_all(&mut self, case: &str, rules: &[u32], header: &[u32], room: usize) -> Agreed {
+        self.arena.take_back();
+        let lent_rules = self.arena.lend("rules", rules);
+        let lent_header = self.arena.lend("header", header);
+        let mut out = unwritten_words(room);
+        let lent_out = self.arena.lend("out", &out);
+        let answer = oracle::scan_all(rules, header, &mut out);
+        self.arena.want(lent_out, &out);
+        let named = Inputs::of(Call::ScanAll, case);
+        let inputs = Inputs { rules: Some(rules), header: Some(header), rooms: &[room], ..named };
+        self.compare(inputs, &[lent_rules, lent_header, lent_out], answer)
+    }
+
+    pub fn scan_first(&mut self, case: &str, rules: &[u32], header: &[u32]) -> Agreed {
+        self.arena.take_back();
+        let lent_rules = self.arena.lend("rules", rules);
+        let lent_header = self.arena.lend("header", header);
+        let answer = oracle::scan_first(rules, header);
+        let inputs = Inputs { rules: Some(rules), header: Some(header), ..Inputs::of(Call::ScanFirst, case) };
+        self.compare(inputs, &[lent_rules, lent_header], answer)
+    }
+
     /// All calls on a list. The writer has ample room, and all-match has room for a number of every rule, and one over;
-    /// its answer is given back.
+    /// the answer of the line search for all is given back.
     pub fn all_calls(&mut self, case: &str, rules: &[u32], header: &[u32]) -> Agreed {
         self.rule_check(case, rules)?;
         self.write_rules(case, rules)?;
+        self.scan_first(case, rules, header)?;
+        self.scan_all(case, rules, header, rules.len() / 10 + 1)?;
         self.line_first(case, rules, header)?;
         self.line_all(case, rules, header, rules.len() / 10 + 1)
     }

@@ -1,42 +1,22 @@
-//! The line search: every rule of the list is compared with the header, from rule 0 on.
+//! The line search: the list is judged, and then scanned.
 
-use crate::answer::{Answer, Refusal};
-use crate::header::judge_header;
-use crate::matching::matches;
+use crate::answer::Answer;
 use crate::rules::judge_rules;
+use crate::scan::{scan_all, scan_first};
 
-/// Writes the numbers of all matching rules to the start of `out`, rising: 1, 2, 3, then 4.
-/// A completed search gives `a`, how many numbers it wrote; the rest of `out` is as found. So is all of it
-/// on a refusal. Where no rule matches, no room is needed.
+/// Writes the numbers of all matching rules to the start of `out`, rising: 1, 2, and then as `scan_all` does.
 pub fn line_all(rules: &[u32], header: &[u32], out: &mut [u32]) -> Answer {
-    match line_search(rules, header) {
+    match judge_rules(rules) {
         Err(refusal) => Answer::refused(refusal),
-        Ok(matching) if matching.len() > out.len() => Answer::refused(Refusal::OutputShort { needed: matching.len() }),
-        Ok(matching) => {
-            out[..matching.len()].copy_from_slice(&matching);
-            Answer::completed(matching.len() as u64, 0, 0)
-        }
+        Ok(_) => scan_all(rules, header, out),
     }
 }
 
-/// Finds the lowest matching rule: 1, 2, then 3. The whole list is judged first, so a bad rule after the
-/// first match is still 2. A completed search gives `a`, the rule's number + 1, or 0 where none matches.
+/// Finds the lowest matching rule: 1, 2, and then as `scan_first` does. The whole list is judged first, so a bad rule
+/// after the first match is still 2.
 pub fn line_first(rules: &[u32], header: &[u32]) -> Answer {
-    match line_search(rules, header) {
+    match judge_rules(rules) {
         Err(refusal) => Answer::refused(refusal),
-        Ok(matching) => Answer::completed(matching.first().map_or(0, |&rule| u64::from(rule) + 1), 0, 0),
+        Ok(_) => scan_first(rules, header),
     }
-}
-
-/// The numbers of all matching rules, rising; otherwise refusal 1, 2 or 3, in this order.
-fn line_search(rules: &[u32], header: &[u32]) -> Result<Vec<u32>, Refusal> {
-    let list = judge_rules(rules)?;
-    let header = judge_header(header)?;
-    let mut matching = Vec::new();
-    for (number, rule) in (0..).zip(&list) {
-        if matches(rule, &header) {
-            matching.push(number);
-        }
-    }
-    Ok(matching)
 }

@@ -12,6 +12,7 @@ mod program_drawn;
 mod program_files;
 mod program_input;
 mod rooms;
+mod scans;
 mod text_cases;
 mod text_damage;
 mod text_drawn;
@@ -36,6 +37,7 @@ pub fn run(bench: &mut Bench) -> Run {
     damage::run(bench)?;
     order::run(bench)?;
     drawn_damage::run(bench)?;
+    scans::run(bench)?;
     tree_correctness::run(bench)?;
     tree_agreement::run(bench)?;
     tree_chains::run(bench)?;

@@ -12,15 +12,13 @@ use std::net::Ipv4Addr;
 use std::path::Path;
 use std::process::ExitCode;
 
-use wickorchard::{Header, Policy, Refusal};
-
-/// The most bytes of a file. A good one is never longer.
-const MOST_BYTES: usize = 65_536;
+use wickorchard::limits::{HEADER_WORDS, MOST_FILE_BYTES, MOST_RULES};
+use wickorchard::{Header, Policy};
 
 fn main() -> ExitCode {
     let words: Vec<String> = env::args().skip(1).collect();
     let done = match words.split_first() {
-        Some((folder, fields)) if fields.len().is_multiple_of(5) => classify(Path::new(folder), fields),
+        Some((folder, fields)) if fields.len().is_multiple_of(HEADER_WORDS) => classify(Path::new(folder), fields),
         _ => Err("give a folder, and then five words for each header".into()),
     };
     match done {
@@ -44,8 +42,12 @@ fn classify(folder: &Path, fields: &[String]) -> Result<(), Box<dyn Error>> {
             println!("the list serves, since the tree is refused with 12, place 0, extra 0");
         }
     }
-    for five in fields.chunks(5) {
-        let answer = answer(&policy, &header(five)?).unwrap_or_else(|refusal| refusal.to_string());
+    for five in fields.chunks(HEADER_WORDS) {
+        // A port or protocol that is too large makes no header, and so there is nothing to search for.
+        let answer = match Header::try_from(words(five)?) {
+            Ok(header) => answer(&policy, &header),
+            Err(refusal) => refusal.to_string(),
+        };
         println!("{}: {answer}", five.join(" "));
     }
     Ok(())
@@ -56,23 +58,24 @@ fn classify(folder: &Path, fields: &[String]) -> Result<(), Box<dyn Error>> {
 fn read_file(folder: &Path, name: &str) -> Result<Vec<u8>, Box<dyn Error>> {
     let mut text = Vec::new();
     File::open(folder.join(name))
-        .and_then(|file| file.take(MOST_BYTES as u64 + 1).read_to_end(&mut text))
+        .and_then(|file| file.take(MOST_FILE_BYTES as u64 + 1).read_to_end(&mut text))
         .map_err(|error| format!("{name} cannot be read: {error}"))?;
-    if text.len() > MOST_BYTES {
-        return Err(format!("{name} is over {MOST_BYTES} bytes").into());
+    if text.len() > MOST_FILE_BYTES {
+        return Err(format!("{name} is over {MOST_FILE_BYTES} bytes").into());
     }
     Ok(text)
 }
 
-fn header(five: &[String]) -> Result<Header, Box<dyn Error>> {
+fn words(five: &[String]) -> Result<[u32; HEADER_WORDS], Box<dyn Error>> {
     let address = |word: &String| word.parse::<Ipv4Addr>().map(u32::from);
     Ok([address(&five[0])?, address(&five[1])?, five[2].parse()?, five[3].parse()?, five[4].parse()?])
 }
 
-fn answer(policy: &Policy, header: &Header) -> Result<String, Refusal> {
-    let listed: Vec<String> = policy.all(header)?.iter().map(u32::to_string).collect();
-    Ok(match policy.first(header)? {
+fn answer(policy: &Policy, header: &Header) -> String {
+    let mut found = [0; MOST_RULES];
+    let listed: Vec<String> = policy.all(header, &mut found).iter().map(u32::to_string).collect();
+    match policy.first(header) {
         Some(first) => format!("rule {first} first, of {}", listed.join(" ")),
         None => "no rule".to_string(),
-    })
+    }
 }

@@ -1,4 +1,11 @@
 //! The library's calls on lent slices. Each takes any words and bytes; a refused one alters none of them.
+//!
+//! **The two tree searches answer by the tree as it is.** By a tree that is wrong for the rules they may give a wrong
+//! answer without a refusal. Search only a tree that [`tree_check`] has accepted, with the same rules, nodes and pool,
+//! unchanged since. [`Policy`](crate::Policy) sees to that.
+//!
+//! Words are numbers in this machine's own order, as `u32::from(Ipv4Addr)` gives them: `[a, b, c, d]` is
+//! `u32::from_be_bytes([a, b, c, d])`. [`Header::words`](crate::Header::words) makes the words of a header.
 
 use crate::raw::{self, Answer};
 use crate::refusal::Refusal;
@@ -47,7 +54,8 @@ pub fn rule_check(rules: &[u32]) -> Result<usize, Refusal> {
         .map(|[count, ..]| count as usize)
 }
 
-/// Writes the numbers of all rules that match the header to the front of `out`, rising, and gives them: 1, 2, 3, 4.
+/// Judges the list; then writes the numbers of all rules that match the header to the front of `out`, rising, and gives
+/// them: 1, 2, 3, 4.
 pub fn line_all<'a>(rules: &[u32], header: &[u32], out: &'a mut [u32]) -> Result<&'a [u32], Refusal> {
     let [count, ..] = answered(|answer| unsafe {
         let (r, h, o) = (rules.len() as u64, header.len() as u64, out.len() as u64);
@@ -56,7 +64,7 @@ pub fn line_all<'a>(rules: &[u32], header: &[u32], out: &'a mut [u32]) -> Result
     Ok(&out[..count as usize])
 }
 
-/// The lowest rule that matches the header: 1, 2, 3.
+/// Judges the list; then finds the lowest rule that matches the header: 1, 2, 3.
 pub fn line_first(rules: &[u32], header: &[u32]) -> Result<Option<u32>, Refusal> {
     let [next, ..] = answered(|answer| unsafe {
         raw::wick_line_first(rules.as_ptr(), rules.len() as u64, header.as_ptr(), header.len() as u64, answer)
@@ -64,8 +72,27 @@ pub fn line_first(rules: &[u32], header: &[u32]) -> Result<Option<u32>, Refusal>
     Ok(rule_before(next))
 }
 
-/// Writes the numbers in the header's leaf that match it to the front of `out`, and gives them: 3, 6, 7, 4. The tree
-/// need not be checked, but only one that is accepted gives what the list gives.
+/// As [`line_all`], but the list is not judged: 3, 4. It takes any words; words past the last whole rule are no rule. A
+/// caller with many headers judges the list once, by [`rule_check`], and scans after that.
+pub fn scan_all<'a>(rules: &[u32], header: &[u32], out: &'a mut [u32]) -> Result<&'a [u32], Refusal> {
+    let [count, ..] = answered(|answer| unsafe {
+        let (r, h, o) = (rules.len() as u64, header.len() as u64, out.len() as u64);
+        raw::wick_scan_all(rules.as_ptr(), r, header.as_ptr(), h, out.as_mut_ptr(), o, answer)
+    })?;
+    Ok(&out[..count as usize])
+}
+
+/// As [`line_first`], but the list is not judged: 3. It takes any words, as [`scan_all`] does.
+pub fn scan_first(rules: &[u32], header: &[u32]) -> Result<Option<u32>, Refusal> {
+    let [next, ..] = answered(|answer| unsafe {
+        raw::wick_scan_first(rules.as_ptr(), rules.len() as u64, header.as_ptr(), header.len() as u64, answer)
+    })?;
+    Ok(rule_before(next))
+}
+
+/// Writes the numbers in the header's leaf that match it to the front of `out`, and gives them: 3, 6, 7, 4.
+///
+/// **The tree is not checked.** Only one that [`tree_check`] has accepted for these rules gives what the list gives.
 pub fn tree_all<'a>(
     rules: &[u32],
     tree: Tree,
@@ -82,7 +109,9 @@ pub fn tree_all<'a>(
     Ok(Counted { found: &out[..count as usize], visited, compared })
 }
 
-/// The first number in the header's leaf that matches it: 3, 6, 7. As for [`tree_all`], the tree need not be checked.
+/// The first number in the header's leaf that matches it: 3, 6, 7.
+///
+/// **The tree is not checked.** Only one that [`tree_check`] has accepted for these rules gives what the list gives.
 pub fn tree_first(rules: &[u32], tree: Tree, header: &[u32]) -> Result<Counted<Option<u32>>, Refusal> {
     let Tree { nodes, pool } = tree;
     let [next, visited, compared] = answered(|answer| unsafe {
@@ -92,7 +121,7 @@ pub fn tree_first(rules: &[u32], tree: Tree, header: &[u32]) -> Result<Counted<O
     Ok(Counted { found: rule_before(next), visited, compared })
 }
 
-/// May this tree serve for this list? 1, 2, 5, 6, 7, 8.
+/// May this tree serve for this list? 1, 2, 5, 6, 7, 8. Where it is not refused, the tree is accepted.
 pub fn tree_check(rules: &[u32], tree: Tree) -> Result<Figures, Refusal> {
     let Tree { nodes, pool } = tree;
     let [cuts, longest_leaf, _] = answered(|answer| unsafe {
@@ -131,7 +160,7 @@ pub fn tree_write<'a>(rule_count: u64, tree: Tree, text: &'a mut [u8]) -> Result
 }
 
 /// Reads a tree file, writes three words for each node to the front of `nodes` and the leaf entries to the front of
-/// `pool`, and gives how many there are: 9 or 10, 4.
+/// `pool`, and gives how many there are: 9 or 10, 4. What it has read is not checked yet.
 pub fn tree_read(text: &[u8], nodes: &mut [u32], pool: &mut [u32]) -> Result<TreeCounts, Refusal> {
     let counts = answered(|answer| unsafe {
         let (t, n, p) = (text.len() as u64, nodes.len() as u64, pool.len() as u64);

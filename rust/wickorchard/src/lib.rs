@@ -2,12 +2,40 @@
 //! with the list on every header.
 //!
 //! [`Policy`] reads both files and answers; a tree serves only where the check accepts it. [`calls`] has each call of
-//! the library by itself, on lent slices of words. No caller needs unsafe code.
+//! the library by itself, on lent slices of words, whose numbers [`limits`] has. No caller needs unsafe code.
+//!
+//! ```
+//! use wickorchard::limits::MOST_RULES;
+//! use wickorchard::{Header, Policy, Refusal};
+//!
+//! let text = "rules\t2\n\
+//!     rule\t0\t10.0.0.0/8\t0.0.0.0/0\t0\t65535\t80\t80\t6\t6\n\
+//!     rule\t1\t0.0.0.0/0\t0.0.0.0/0\t0\t65535\t0\t65535\t0\t255\n\
+//!     end\t3\n";
+//! let policy = Policy::read(text.as_bytes())?;
+//! let header = Header {
+//!     source: [10, 1, 2, 3].into(),
+//!     destination: [192, 168, 0, 1].into(),
+//!     source_port: 40_000,
+//!     destination_port: 80,
+//!     protocol: 6,
+//! };
+//! assert_eq!(policy.first(&header), Some(0));
+//! let mut found = [0; MOST_RULES];
+//! assert_eq!(policy.all(&header, &mut found), [0, 1]);
+//!
+//! // A file that was cut short is refused, and never taken for a shorter list.
+//! assert_eq!(Policy::read(&text.as_bytes()[..60]).err(), Some(Refusal::TextStops { lines: 2 }));
+//! # Ok::<(), Refusal>(())
+//! ```
 
 pub mod calls;
+pub mod header;
+pub mod limits;
 pub mod policy;
 pub mod raw;
 pub mod refusal;
 
-pub use policy::{Header, Policy};
+pub use header::Header;
+pub use policy::Policy;
 pub use refusal::Refusal;

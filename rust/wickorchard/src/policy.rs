@@ -1,18 +1,16 @@
-//! A policy in memory: a list, and a tree that serves in its place once the check has accepted it.
+//! A policy in memory: a list that was judged, and a tree that serves in its place once the check has accepted it.
 
 use crate::calls::{self, Figures, Tree};
+use crate::header::Header;
+use crate::limits::{MOST_NODE_WORDS, MOST_POOL_WORDS, MOST_RULES, MOST_RULE_WORDS, NODE_WORDS, RULE_WORDS};
 use crate::refusal::Refusal;
 
-/// Source, destination, source port, destination port and protocol.
-pub type Header = [u32; 5];
-
-const MOST_RULES: usize = 512;
-const RULE_WORDS: usize = 10;
-const MOST_NODES: usize = 2_047;
-const NODE_WORDS: usize = 3;
-const MOST_ENTRIES: usize = 4_096;
+/// Why a search by a policy completes: every reason to refuse was looked for when the policy was read.
+const JUDGED: &str = "the list is good, the tree is accepted, the header is legal, and there is room for all rules";
 
 /// A good list of rules. Its answers are those of the list, whether a tree serves or not.
+///
+/// The list is judged once, when it is read, and a tree is checked once. No search is refused, and none allocates.
 #[derive(Clone, Debug)]
 pub struct Policy {
     rules: Vec<u32>,
@@ -21,20 +19,20 @@ pub struct Policy {
 }
 
 impl Policy {
-    /// The list that a rules file holds, with no tree.
+    /// The list that a rules file holds, with no tree: 9 or 10.
     pub fn read(rules_file: &[u8]) -> Result<Policy, Refusal> {
-        let mut rules = vec![0; MOST_RULES * RULE_WORDS];
+        let mut rules = vec![0; MOST_RULE_WORDS];
         let count = calls::rules_read(rules_file, &mut rules)?;
         rules.truncate(count * RULE_WORDS);
         Ok(Policy { rules, tree: None })
     }
 
-    /// Has the tree that a tree file holds serve from now on. Where the file is refused, or the check refuses its tree,
-    /// the list serves.
+    /// Has the tree that a tree file holds serve from now on: 9 or 10, 6, 7, 8. Where the file is refused, or the check
+    /// refuses its tree, the list serves.
     pub fn read_tree(&mut self, tree_file: &[u8]) -> Result<Figures, Refusal> {
         self.tree = None;
-        let mut nodes = vec![0; MOST_NODES * NODE_WORDS];
-        let mut pool = vec![0; MOST_ENTRIES];
+        let mut nodes = vec![0; MOST_NODE_WORDS];
+        let mut pool = vec![0; MOST_POOL_WORDS];
         let counts = calls::tree_read(tree_file, &mut nodes, &mut pool)?;
         nodes.truncate(counts.nodes * NODE_WORDS);
         pool.truncate(counts.pool);
@@ -47,22 +45,27 @@ impl Policy {
         self.rules.len() / RULE_WORDS
     }
 
-    /// The numbers of all rules that match the header, rising. It is refused only where a port or the protocol is too
-    /// large.
-    pub fn all(&self, header: &Header) -> Result<Vec<u32>, Refusal> {
-        let mut out = [0; MOST_RULES];
-        let found = match &self.tree {
-            Some((nodes, pool)) => calls::tree_all(&self.rules, Tree { nodes, pool }, header, &mut out)?.found,
-            None => calls::line_all(&self.rules, header, &mut out)?,
-        };
-        Ok(found.to_vec())
+    /// Writes the numbers of all rules that match the header to the front of `found`, rising, and gives them.
+    pub fn all<'a>(&self, header: &Header, found: &'a mut [u32; MOST_RULES]) -> &'a [u32] {
+        let header = header.words();
+        match &self.tree {
+            Some((nodes, pool)) => {
+                calls::tree_all(&self.rules, Tree { nodes, pool }, &header, found).map(|counted| counted.found)
+            }
+            None => calls::scan_all(&self.rules, &header, found),
+        }
+        .expect(JUDGED)
     }
 
-    /// The lowest rule that matches the header. It is refused as [`all`](Policy::all) is.
-    pub fn first(&self, header: &Header) -> Result<Option<u32>, Refusal> {
+    /// The lowest rule that matches the header.
+    pub fn first(&self, header: &Header) -> Option<u32> {
+        let header = header.words();
         match &self.tree {
-            Some((nodes, pool)) => Ok(calls::tree_first(&self.rules, Tree { nodes, pool }, header)?.found),
-            None => calls::line_first(&self.rules, header),
+            Some((nodes, pool)) => {
+                calls::tree_first(&self.rules, Tree { nodes, pool }, &header).map(|counted| counted.found)
+            }
+            None => calls::scan_first(&self.rules, &header),
         }
+        .expect(JUDGED)
     }
 }

@@ -3,7 +3,7 @@
 //! A pointer is never null, is aligned, and points to as many elements as the number after it says; what is written to
 //! overlaps nothing else that the same call is lent. The functions of [`calls`](crate::calls) see to that.
 
-/// What a call answers: number, place, extra, the call's values a, b and c, and two zeros.
+/// What a call answers: number, place, extra, and the values a to e, of which a call that gives fewer has 0.
 pub type Answer = [u64; 8];
 
 extern "C" {
@@ -18,6 +18,16 @@ extern "C" {
         answer: *mut Answer,
     );
     pub fn wick_line_first(rules: *const u32, rules_len: u64, header: *const u32, header_len: u64, answer: *mut Answer);
+    pub fn wick_scan_all(
+        rules: *const u32,
+        rules_len: u64,
+        header: *const u32,
+        header_len: u64,
+        out: *mut u32,
+        out_len: u64,
+        answer: *mut Answer,
+    );
+    pub fn wick_scan_first(rules: *const u32, rules_len: u64, header: *const u32, header_len: u64, answer: *mut Answer);
     pub fn wick_tree_all(
         rules: *const u32,
         rules_len: u64,

@@ -2,7 +2,8 @@
 
 use oracle::Answer;
 use wickorchard::calls::{self, Counted, Figures, Tree, TreeCounts};
-use wickorchard::{Policy, Refusal};
+use wickorchard::limits::MOST_RULES;
+use wickorchard::{Header, Policy, Refusal};
 
 const RULES_FILE: &[u8] = include_bytes!("../../../examples/worked/rules.txt");
 const TREE_FILE: &[u8] = include_bytes!("../../../examples/worked/tree.txt");
@@ -64,13 +65,19 @@ fn the_list_calls() {
         expect(calls::rule_check(&rules), oracle::rule_check(&rules), |count| [count as u64, 0, 0]);
         for header in HEADERS {
             for header in [&header[..], &header[..4]] {
-                expect(calls::line_first(&rules, header), oracle::line_first(&rules, header), |first| {
-                    [first.map_or(0, |rule| u64::from(rule) + 1), 0, 0]
-                });
-                for room in [0, 2, 3, 9] {
+                let in_one_word = |first: Option<u32>| [first.map_or(0, |rule| u64::from(rule) + 1), 0, 0];
+                expect(calls::line_first(&rules, header), oracle::line_first(&rules, header), in_one_word);
+                expect(calls::scan_first(&rules, header), oracle::scan_first(&rules, header), in_one_word);
+                for room in [0, 2, 3, 9, 513] {
                     let [mut out, mut wanted] = [vec![7; room], vec![7; room]];
                     let answer = oracle::line_all(&rules, header, &mut wanted);
                     expect(calls::line_all(&rules, header, &mut out), answer, |found| {
+                        assert_eq!(found, &wanted[..answer.a as usize]);
+                        [found.len() as u64, 0, 0]
+                    });
+                    assert_eq!(out, wanted);
+                    let answer = oracle::scan_all(&rules, header, &mut wanted);
+                    expect(calls::scan_all(&rules, header, &mut out), answer, |found| {
                         assert_eq!(found, &wanted[..answer.a as usize]);
                         [found.len() as u64, 0, 0]
                     });
@@ -163,12 +170,52 @@ fn a_policy_answers_by_its_list_until_a_tree_is_accepted() {
         (b"tree\t3\t1\t2\nleaf\t0\t2\t0\t2\nend\t2\n", Err(Refusal::LeafLacksRule { node: 0, rule: 1 })),
     ] {
         assert_eq!(policy.read_tree(tree_file), served);
-        assert_eq!(policy.all(&HEADERS[0]), Ok(vec![0, 1, 2]));
-        assert_eq!(policy.all(&HEADERS[1]), Ok(vec![1, 2]));
-        assert_eq!(policy.first(&HEADERS[1]), Ok(Some(1)));
-        assert_eq!(policy.all(&HEADERS[3]), Err(Refusal::HeaderWrong { field: 2 }));
-        assert_eq!(policy.first(&HEADERS[4]), Err(Refusal::HeaderWrong { field: 4 }));
+        for (words, list) in [(HEADERS[0], &[0, 1, 2][..]), (HEADERS[1], &[1, 2]), (HEADERS[2], &[2])] {
+            let header = Header::try_from(words).expect("the header is legal");
+            assert_eq!(policy.all(&header, &mut [7; MOST_RULES]), list);
+            assert_eq!(policy.first(&header), Some(list[0]));
+        }
     }
     let none = Policy::read(b"rules\t0\nend\t1\n").expect("an empty list is good");
-    assert_eq!((none.all(&HEADERS[0]), none.first(&HEADERS[0])), (Ok(Vec::new()), Ok(None)));
+    let header = Header::try_from(HEADERS[0]).expect("the header is legal");
+    assert_eq!((none.all(&header, &mut [7; MOST_RULES]), none.first(&header)), (&[][..], None));
+}
+
+#[test]
+fn a_list_of_512_rules_that_all_match() {
+    let rules = EVERYTHING.repeat(MOST_RULES);
+    let [mut rules_text, mut tree_text] = [vec![0; 65_536], vec![0; 65_536]];
+    let rules_file = calls::rules_write(&rules, &mut rules_text).expect("the list is good");
+    let numbers: Vec<u32> = (0..512).collect();
+    let one_leaf = Tree { nodes: &[5, 0, 512], pool: &numbers };
+    let tree_file = calls::tree_write(512, one_leaf, &mut tree_text).expect("the tree is spelt");
+    let mut policy = Policy::read(rules_file).expect("the list is good");
+    let header = Header::try_from([u32::MAX, u32::MAX, 65_535, 65_535, 255]).expect("the header is legal");
+    assert_eq!(policy.all(&header, &mut [7; MOST_RULES]), numbers);
+    assert_eq!(policy.read_tree(tree_file), Ok(Figures { cuts: 0, longest_leaf: 512 }));
+    assert_eq!(policy.all(&header, &mut [7; MOST_RULES]), numbers);
+    assert_eq!(policy.first(&header), Some(0));
+}
+
+#[test]
+fn a_header_is_its_five_words() {
+    let header = Header {
+        source: [10, 1, 2, 3].into(),
+        destination: [192, 168, 0, 1].into(),
+        source_port: 40_000,
+        destination_port: 80,
+        protocol: 6,
+    };
+    assert_eq!(header.words(), HEADERS[0]);
+    // Words make a header exactly where the calls take them; otherwise they are refused in the same way.
+    let limits = [0, 1, 255, 256, 65_535, 65_536, u32::MAX];
+    for source_port in limits {
+        for destination_port in limits {
+            for protocol in limits {
+                let words = [0, u32::MAX, source_port, destination_port, protocol];
+                let taken = calls::scan_first(&[], &words).map(|_| words);
+                assert_eq!(Header::try_from(words).map(|header| header.words()), taken);
+            }
+        }
+    }
 }

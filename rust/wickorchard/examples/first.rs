@@ -1,0 +1,28 @@
+//! Says which rule of a rules file decides about a packet: the lowest that matches.
+//!
+//!     first RULES SOURCE DESTINATION SOURCE_PORT DESTINATION_PORT PROTOCOL
+
+use std::error::Error;
+use std::{env, fs};
+
+use wickorchard::{Header, Policy};
+
+fn main() -> Result<(), Box<dyn Error>> {
+    let given: Vec<String> = env::args().skip(1).collect();
+    let [rules, source, destination, source_port, destination_port, protocol] = &given[..] else {
+        return Err("give a rules file, two addresses, two ports and a protocol".into());
+    };
+    let policy = Policy::read(&fs::read(rules)?)?;
+    let header = Header {
+        source: source.parse()?,
+        destination: destination.parse()?,
+        source_port: source_port.parse()?,
+        destination_port: destination_port.parse()?,
+        protocol: protocol.parse()?,
+    };
+    match policy.first(&header) {
+        Some(rule) => println!("rule {rule}"),
+        None => println!("no rule"),
+    }
+    Ok(())
+}

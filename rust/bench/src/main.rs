@@ -1,10 +1,11 @@
 //! Times the library's tree check and tree searches beside a plain Rust walk of the same tree, at the largest sizes;
-//! and the writers and readers of both files.
+//! the scans of a list beside a plain Rust scan of it; and the writers and readers of both files.
 //!
 //! The plain walk trusts the tree: it looks at no node that its header does not need, refuses nothing and counts
 //! nothing.
 
 mod files;
+mod scans;
 
 use std::hint::black_box;
 use std::time::{Duration, Instant};
@@ -182,5 +183,6 @@ fn main() {
     });
     assert_eq!(answer, [0, 0, 0, 10, 4, 0, 0, 0]);
     println!("the tree check           {check:?}");
+    scans::time(&mut draw);
     files::time(&tree);
 }

@@ -198,6 +198,24 @@ fn a_list_of_512_rules_that_all_match() {
 }
 
 #[test]
+fn what_the_programmers_page_says() {
+    let policy = Policy::read(RULES_FILE).expect("the list is good");
+    let first =
+        |source: [u8; 4]| policy.first(&Header { source: source.into(), ..Header::try_from(HEADERS[0]).unwrap() });
+    assert_eq!((first([10, 1, 2, 3]), first([3, 2, 1, 10])), (Some(0), Some(2)));
+    assert_eq!(HEADERS[0][0].swap_bytes(), u32::from_be_bytes([3, 2, 1, 10]));
+
+    let mut rules = rules();
+    rules[17] = 70_000;
+    let refusal = calls::rule_check(&rules).expect_err("rule 1 is not good");
+    assert_eq!(refusal, Refusal::RuleNotGood { rule: 1 });
+    assert_eq!(refusal.to_string(), "refused with 2, place 1, extra 0");
+
+    fn shared_by_threads<T: Send + Sync>(_: &T) {}
+    shared_by_threads(&policy);
+}
+
+#[test]
 fn a_header_is_its_five_words() {
     let header = Header {
         source: [10, 1, 2, 3].into(),

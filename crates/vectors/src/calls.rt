@@ -11,6 +11,8 @@ use rules::line::First;
 use rules::line::Listed;
 use rules::line::line_all;
 use rules::line::line_first;
+use rules::line::scan_all;
+use rules::line::scan_first;
 use tree_check::check::TreeAnswer;
 use tree_check::check::tree_check;
 use trees::search::TreeFirst;
@@ -52,9 +54,22 @@ pub(crate) fn check_tree(example: &[u8], list: &[u32], nodes: &[u32], pool: &[u3
 pub(crate) fn search_list(example: &[u8], list: &[u32], header: &[u32]) {
     let mut out = [AS_FOUND; 3];
     let said = line_all(list, header, &mut out);
-    say_listed(example, said, out);
-    begin(example, b"line_first");
-    match line_first(list, header) {
+    say_listed(example, b"line_all", said, out);
+    say_first(example, b"line_first", line_first(list, header));
+}
+
+// Both scans, with room for three numbers.
+pub(crate) fn scan_list(example: &[u8], list: &[u32], header: &[u32]) {
+    let mut out = [AS_FOUND; 3];
+    let said = scan_all(list, header, &mut out);
+    say_listed(example, b"scan_all", said, out);
+    say_first(example, b"scan_first", scan_first(list, header));
+}
+
+// The first number, or none.
+fn say_first(example: &[u8], call: &[u8], said: First) {
+    begin(example, call);
+    match said {
         First::Refused(why) => refused(why),
         First::Rule { number } => {
             value(0);
@@ -69,9 +84,9 @@ pub(crate) fn search_list(example: &[u8], list: &[u32], header: &[u32]) {
     end();
 }
 
-// The numbers that a line search found, of which there are so many.
-pub(crate) fn say_listed(example: &[u8], said: Listed, out: [u32; 3]) {
-    begin(example, b"line_all");
+// The numbers that a line search or a scan found, of which there are so many.
+pub(crate) fn say_listed(example: &[u8], call: &[u8], said: Listed, out: [u32; 3]) {
+    begin(example, call);
     match said {
         Listed::Refused(why) => refused(why),
         Listed::Found { count } => {

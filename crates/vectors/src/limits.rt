@@ -1,6 +1,7 @@
 // The limits, on both sides.
 use crate::calls::check_list;
 use crate::calls::check_tree;
+use crate::calls::scan_list;
 use crate::calls::search_list;
 use crate::calls::search_tree;
 use crate::files::read_list;
@@ -38,7 +39,9 @@ pub(crate) fn length_0() {
 
 // A length past 32, and the bit that a length of 31 leaves out.
 pub(crate) fn past_length_32() {
-    check_list(b"length 33", &[0, 33, 0, 0, 0, 65535, 0, 65535, 0, 255]);
+    let list = [0, 33, 0, 0, 0, 65535, 0, 65535, 0, 255];
+    check_list(b"length 33", &list);
+    scan_list(b"length 33", &list, &web(0));
     check_list(
         b"length 31, the last bit set",
         &[1, 31, 0, 0, 0, 65535, 0, 65535, 0, 255],
@@ -58,6 +61,7 @@ pub(crate) fn rules_512() {
     check_list(b"512 rules but one word", &list[..5119]);
     list[5118] = 256;
     check_list(b"512 rules, the last not good", &list);
+    scan_list(b"512 rules, the last not good", &list, &[0; 5]);
     read_list(
         b"a file of 512 rules, cut after its first line",
         b"rules\t512\n",
@@ -71,6 +75,8 @@ pub(crate) fn rules_513() {
     list[5129] = 255;
     check_list(b"513 rules", &list);
     search_list(b"513 rules", &list, &[0, 0, 0, 0, 6]);
+    scan_list(b"513 rules", &list, &[0, 0, 0, 0, 6]);
+    scan_list(b"513 rules but one word", &list[..5129], &[0, 0, 0, 0, 6]);
     check_tree(b"513 rules", &list, &[5, 0, 0], &[]);
     read_list(
         b"a file of 513 rules, cut after its first line",

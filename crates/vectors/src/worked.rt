@@ -54,7 +54,7 @@ pub(crate) fn short_room() {
     let words = web(0x0a010203);
     let mut out = [AS_FOUND; 3];
     let listed = line_all(&RULES, &words, &mut out[..2]);
-    say_listed(b"room for 2 where 3 match", listed, out);
+    say_listed(b"room for 2 where 3 match", b"line_all", listed, out);
     let mut found = [AS_FOUND; 3];
     let said = tree_all(&RULES, &NODES, &POOL, &words, &mut found[..2]);
     say_tree_listed(b"room for 2 where 3 match", said, found);

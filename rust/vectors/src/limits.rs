@@ -29,6 +29,7 @@ pub fn lengths() {
     say::rule_check("length 0 to one address", &to_one);
 
     say::rule_check("length 33", &from_prefix(0, 33));
+    say::scan_list("length 33", &from_prefix(0, 33), &from(0));
     say::rule_check("length 31, the last bit set", &from_prefix(1, 31));
     say::rule_check("length 32, the last bit set", &from_prefix(1, 32));
 }
@@ -49,11 +50,14 @@ pub fn rules() {
     let mut last_bad = list;
     last_bad[5_118] = 256;
     say::rule_check("512 rules, the last not good", &last_bad);
+    say::scan_list("512 rules, the last not good", &last_bad, &[0; 5]);
     say::rules_read("a file of 512 rules, cut after its first line", b"rules\t512\n", 5_120);
 
     let more = many(513);
     say::rule_check("513 rules", &more);
     say::search_list("513 rules", &more, &header);
+    say::scan_list("513 rules", &more, &header);
+    say::scan_list("513 rules but one word", &more[..5_129], &header);
     say::tree_check("513 rules", &more, &Tree { nodes: vec![[5, 0, 0]], pool: vec![] });
     say::rules_read("a file of 513 rules, cut after its first line", b"rules\t513\n", 5_130);
 }

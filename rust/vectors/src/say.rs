@@ -74,6 +74,15 @@ pub fn search_list(example: &str, rules: &[u32], header: &[u32]) {
     line(example, "line_first", answer, &rule_or_none(answer.a.checked_sub(1)), &[]);
 }
 
+/// Both scans, likewise.
+pub fn scan_list(example: &str, rules: &[u32], header: &[u32]) {
+    let mut out = [AS_FOUND; 3];
+    let answer = oracle::scan_all(rules, header, &mut out);
+    line(example, "scan_all", answer, &numbers(&[answer.a]), &out);
+    let answer = oracle::scan_first(rules, header);
+    line(example, "scan_first", answer, &rule_or_none(answer.a.checked_sub(1)), &[]);
+}
+
 /// Both searches of the tree, likewise.
 pub fn search_tree(example: &str, rules: &[u32], tree: &Tree, header: &[u32]) {
     tree_all(example, rules, tree, header, 3);

@@ -2,6 +2,7 @@
 pub mod Equations
 pub mod Bools
 pub mod Cases
+pub mod Bits
 pub mod Below
 pub mod Lowest
 pub mod Steps

@@ -1,30 +1,48 @@
 -- Prefixes of addresses of any width: the tests one by one, and that a good prefix is its range.
 use Prim.Native.Nat.{ℕ, _+_, _-_, _*_, _/_, _%_, _^_, _≤_, _<_}
-use native.Mathlib.Nat.{div-add-mod', mod-lt, mod-eq-of-lt, div-eq-of-lt-le, one-mul}
+use native.Mathlib.Nat.{div-add-mod', mod-lt, mod-eq-of-lt, div-eq-of-lt, div-eq-of-lt-le, one-mul}
 use native.Mathlib.Omega.{arith}
-use mathlib.Core.Bool.{true, false}
+use mathlib.Core.Bool.{true, false, _&&_}
 use mathlib.Core.Path.{_≡_, sym, ap, _∙_}
 use mathlib.Core.Logic.{_↔_}
-use lib.Dec.{leb, eqb}
-use lib.Pow.{pow-pos, pow-mono, shl-exact}
-use borrow.Author.Tests.{le-leb, lt-leb, eqb-true, eq-eqb}
+use lib.Dec.{leb, ltb, eqb}
+use lib.Bits.{bitXor, xor-shr}
+use lib.Pow.{pow-pos, pow-mono, pow-lt, pow-add, shl-exact, shl-shr}
+use borrow.Author.Tests.{le-leb, lt-leb, eqb-true, eq-eqb, le-ltb}
 use Rattle.facts.proofs.Bools.{both, join, same-test}
+use Rattle.facts.proofs.Cases.{WithinOrOver, within-or-over, atMost, over}
+use Rattle.facts.proofs.Bits.{no-bit-differs, below-is-none}
 use Rattle.fields.specs.Ranges.{rangesMeet}
 use Rattle.fields.specs.Prefixes.{span, prefixGood, prefixAgrees, prefixMeets}
 
 -- ---- the tests, as the code makes them
 
--- a length over the width agrees with nothing
-pub long-disagrees : (w address len x : ℕ) → w < len → false ≡ prefixAgrees w address len x
-unfolding prefixAgrees
-long-disagrees w address len x l = rw (lt-leb len w l)
+-- the bits in which two words differ make a number below that of the words that share their first bits exactly where
+-- those agree; and there is no such number where the length is over the width
+pub difference-agrees :
+    (w address len x : ℕ) → ltb (bitXor address x) (2 ^ w / 2 ^ len) ≡ prefixAgrees w address len x
+unfolding prefixAgrees span
+difference-agrees w address len x = by (within-or-over len w)
+  where
+    d : ℕ
+    d = bitXor address x
 
--- within the width, the first bits decide
-pub first-bits-agree :
-    (w address len x : ℕ) {a b : ℕ} → len ≤ w → a ≡ address / span w len → b ≡ x / span w len →
-    eqb a b ≡ prefixAgrees w address len x
-unfolding prefixAgrees
-first-bits-agree w address len x l p q = rw (p, q, le-leb len w l)
+    s : ℕ
+    s = 2 ^ (w - len)
+
+    shared : len ≤ w → 2 ^ w / 2 ^ len ≡ s
+    shared h =
+        let apart : w ≡ (w - len) + len = omega arith in
+        ap (λ (n : ℕ). 2 ^ n / 2 ^ len) apart ∙ ap (λ (n : ℕ). n / 2 ^ len) (pow-add 2 (w - len) len) ∙ shl-shr s len
+
+    below-shared : ltb d s ≡ eqb (address / s) (x / s)
+    below-shared =
+        below-is-none d s (pow-pos (w - len)) ∙ ap (λ (n : ℕ). eqb n 0) (xor-shr address x (w - len)) ∙
+        no-bit-differs (address / s) (x / s)
+
+    by : WithinOrOver len w → ltb d (2 ^ w / 2 ^ len) ≡ (leb len w && eqb (address / s) (x / s))
+    by (atMost h) = rw (shared h, le-leb len w h) below-shared
+    by (over h) = rw (lt-leb len w h, div-eq-of-lt (pow-lt h)) (le-ltb d 0 (omega arith))
 
 -- a length over the width is not good
 pub long-not-good : (w address len : ℕ) → w < len → false ≡ prefixGood w address len

@@ -1,11 +1,17 @@
 // Prefixes: an address and how many of its first bits count.
-ghost use Prim.Native.Nat.{_/_, _≤_};
+ghost use Prim.Native.Nat.{_/_, _^_, _≤_, min};
 ghost use mathlib.Core.Path.{_≡_};
 ghost use Rattle.fields.specs.Words.{addressBits};
 ghost use Rattle.fields.specs.Prefixes.{span, prefixGood, prefixAgrees, prefixMeets};
 
 // The number of an address's bits.
 pub const ADDRESS_BITS: u32 = 32;
+
+// The number of words with so many bits.
+const ALL_WORDS: u64 = 4_294_967_296;
+
+// The most places by which a u64 can be shifted.
+const MOST_PLACES: u32 = 63;
 
 // Whether the length is at most that of an address, and the bits past it are zero.
 pub fn prefix_good(address: u32, len: u32) -> bool
@@ -17,15 +23,30 @@ pub fn prefix_good(address: u32, len: u32) -> bool
     first_bits(address, len) << in_64_bits(ADDRESS_BITS - len) == in_64_bits(address)
 }
 
-// Whether the first `len` bits of the address and of the word agree. A length over that of an address agrees with
-// nothing, and length 0 with everything.
+// Whether the first `len` bits of the address and of the word agree: the bits in which the two differ then make a
+// number below that of the words that share their first bits. A length over that of an address agrees with nothing, and
+// length 0 with everything.
 pub fn prefix_agrees(address: u32, len: u32, word: u32) -> bool
     ensures { λ r. ⌜ r ≡ prefixAgrees addressBits address len word ⌝ }
 {
-    if ADDRESS_BITS < len {
-        return false;
+    in_64_bits(address ^ word) < sharing(len)
+}
+
+// How many words share their first `len` bits; none where the length is over that of an address.
+fn sharing(len: u32) -> u64
+    ensures { λ r. ⌜ r ≡ 2 ^ addressBits / 2 ^ len ⌝ }
+{
+    ALL_WORDS >> in_64_bits(places(len))
+}
+
+// The length as a number of places to shift by.
+fn places(len: u32) -> u32
+    ensures { λ r. ⌜ r ≡ min len 63 ⌝ }
+{
+    if MOST_PLACES < len {
+        return MOST_PLACES;
     }
-    first_bits(address, len) == first_bits(word, len)
+    len
 }
 
 // Whether the range that begins at the address, and has as many words as share its first `len` bits, meets another.

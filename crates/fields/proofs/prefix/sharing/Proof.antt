@@ -1,0 +1,22 @@
+-- `fields::prefix::sharing` meets its contract: a shift to the right divides by a power of two. Assumes nothing.
+use native.Mathlib.Omega.{arith}
+use borrow.Author.Needs.{needs}
+use Rattle.facts.proofs.Bits.{shifted-away}
+use Rattle.fields.specs.Words.{addressBits}
+use Rattle.fields.proofs.prefix.sharing.Statement.{statement}
+use Rattle.fields.proofs.prefix.sharing.Tie as tie
+
+places-requires : tie.Need-places-requires
+places-requires c κs = search needs
+
+in-64-bits-requires : tie.Need-in-64-bits-requires
+in-64-bits-requires c κs = search needs
+
+shr-result : tie.Need-shr-result
+shr-result c = search needs
+
+returns : tie.Need-returns
+returns c = rw (c .in-64-bits .ensures, c .before .places .ensures) (shifted-away addressBits _ (omega arith))
+
+pub sharing-spec : {M : Type 1} → statement M
+sharing-spec = tie.close (tie.spec places-requires in-64-bits-requires shr-result returns)

@@ -28,7 +28,7 @@ use Rattle.console.proofs.Pieces.{after-more, answers-more}
 use Rattle.console.proofs.Parts.{restOf, putAt, now-length, rest-found, put-part}
 
 module _ (answer : List ℕ → List ℕ) (g₀ : Gathering) (bs before : List ℕ) where
-  abbrev upTo : ℕ → List ℕ
+  abbrev pub upTo : ℕ → List ℕ
   upTo i = answers answer g₀ (take i bs)
 
   pub record Reached (g : Gathering) (at i : ℕ) (now : List ℕ) : Type 0 where

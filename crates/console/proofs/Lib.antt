@@ -6,6 +6,9 @@ pub mod Replying
 pub mod Gathering
 pub mod Pieces
 pub mod Parts
+pub mod Joining
+pub mod Passing
+pub mod LineByLine
 pub mod Feeding
 pub mod Held
 pub mod Whole

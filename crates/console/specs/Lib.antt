@@ -3,4 +3,5 @@ pub mod Heads
 pub mod Lines
 pub mod Replies
 pub mod Gathered
+pub mod LineEnds
 pub mod Feeding

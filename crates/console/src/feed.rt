@@ -1,17 +1,20 @@
-// A piece of input, byte by byte: each newline is answered.
+// A piece of input, line by line: each newline is answered.
 use crate::gather::Gathering;
 use crate::head::MOST_BYTES;
 use crate::reply::reply;
 use crate::say::refused_line;
 use refusals::Refusal;
+use text::cursor::Cursor;
+use text::cursor::LineEnd;
 use text::cursor::wrong;
 use text::put::Written;
-use text::words::NEWLINE;
 ghost use Prim.Native.Nat.{_≤_};
+ghost use mathlib.Core.Path.{_≡_};
 ghost use lib.ListN.{length};
 ghost use Rattle.text.specs.Said.{Said};
 ghost use Rattle.console.specs.Replies.{answerTo};
-ghost use Rattle.console.specs.Gathered.{gathering, said, replyAt, lastReply};
+ghost use Rattle.console.specs.Gathered.{gathering, replyAt, lastReply};
+ghost use Rattle.console.specs.LineEnds.{lineEnd};
 ghost use Rattle.console.specs.Feeding.{IsFed};
 
 // How many bytes of a piece were taken, how many bytes their replies fill, and the line that is being gathered.
@@ -40,29 +43,29 @@ pub fn feed(
     let mut filled = 0;
     let mut taken = 0;
     while taken < piece.len() {
-        let byte = piece[taken];
-        match said(
-            rules,
-            nodes,
-            pool,
-            accepted,
-            gathering,
-            byte,
-            &mut out[filled..],
-        ) {
+        let end = line_end(piece, taken);
+        let line = gathering.with_bytes(&piece[taken..end]);
+        if end == piece.len() {
+            return Fed {
+                taken: piece.len(),
+                filled,
+                gathering: line,
+            };
+        }
+        match reply_at(rules, nodes, pool, accepted, line, &mut out[filled..]) {
             Written::Refused(_) => {
                 return Fed {
-                    taken,
+                    taken: end,
                     filled,
-                    gathering,
+                    gathering: line,
                 };
             }
             Written::Bytes { bytes } => {
                 filled += bytes;
             }
         }
-        gathering = gathering.step(byte);
-        taken += 1;
+        gathering = line.next_line();
+        taken = end + 1;
     }
     Fed {
         taken,
@@ -71,37 +74,44 @@ pub fn feed(
     }
 }
 
-// What is replied at a byte: nothing but at a newline.
-fn said(
+// The place of the next newline, or the end of the piece where there is none.
+fn line_end(piece: &[u8], from: usize) -> usize
+    ensures { λ r. ⌜ r ≡ lineEnd (now (piece .entry)) from ⌝ }
+{
+    let start = Cursor { at: from, lines: 0 };
+    match start.line_end(piece) {
+        LineEnd::At(end) => end,
+        LineEnd::Refused(_) => piece.len(),
+    }
+}
+
+// The reply to a line that is whole.
+fn reply_at(
     rules: &[u32],
     nodes: &[u32],
     pool: &[u32],
     accepted: bool,
-    gathering: Gathering,
-    byte: u8,
+    line: Gathering,
     out: &mut [u8],
 ) -> Written
     ensures { λ r. ⌜ Said
-        (said (answerTo accepted (now (rules .entry)) (now (nodes .entry)) (now (pool .entry))) gathering byte)
+        (replyAt (answerTo accepted (now (rules .entry)) (now (nodes .entry)) (now (pool .entry))) line)
         (now (out .entry)) r (now (out .exit)) ⌝ }
 {
-    if byte != NEWLINE {
-        return Written::Bytes { bytes: 0 };
-    }
-    let held = gathering.held;
+    let held = line.held;
     whole_line(
         rules,
         nodes,
         pool,
         accepted,
         held,
-        gathering.count,
-        gathering.lines,
+        line.count,
+        line.lines,
         out,
     )
 }
 
-// The reply to a line that is whole: the first `count` bytes that are held, unless it was too long.
+// The same of its parts: the first `count` bytes that are held, unless the line was too long.
 fn whole_line(
     rules: &[u32],
     nodes: &[u32],

@@ -2,7 +2,7 @@
 //   head::head_in              the header that an input line asks about
 //   say::refused_line          the line of a refusal: 4
 //   reply::reply               the reply to one input line, by the list or by a tree: 4
-//   gather::Gathering          the line that is being gathered: start, step
+//   gather::Gathering          the line that is being gathered: start
 //   feed::feed                 the replies to a piece of input, as far as there is room
 //   feed::last_reply           the reply to a last part without newline: 4
 // Each takes any words and bytes. By an accepted tree the replies are those by the list, and however the input is cut

@@ -3,6 +3,7 @@ pub mod Saying
 pub mod Heads
 pub mod Searching
 pub mod Replying
+pub mod Judging
 pub mod Gathering
 pub mod Pieces
 pub mod Parts

@@ -47,8 +47,8 @@ module _
     left : takenOf answer (length before - at) g (drop i bs) ≡
         (j - i) + takenOf answer (length before - at) g′ (drop j bs)
     left =
-        ap (takenOf answer (length before - at) g) split ∙ taken-plain answer _ g (partTo bs i j) (drop j bs) (e .plain) ∙
-        rw (size, f)
+        ap (takenOf answer (length before - at) g) split ∙
+        taken-plain answer _ g (partTo bs i j) (drop j bs) (e .plain) ∙ rw (size, f)
 
     no-more : upTo answer g₀ bs before j ≡ upTo answer g₀ bs before i
     no-more =

@@ -1,7 +1,6 @@
 -- What the search answers, by the list or by the tree, and the line that is made of it.
 use Prim.Native.Nat.{ℕ, _≤_}
 use native.Mathlib.Omega.{arith}
-use mathlib.Core.Bool.{Bool, true, false}
 use mathlib.Core.Path.{_≡_, refl, ap, _∙_}
 use mathlib.Core.List.{List, [], _∷_}
 use lib.ListN.{length, take, drop, length-append}
@@ -15,7 +14,8 @@ use Rattle.refusals.proofs.Promises.{refused-by, fine-by, said-by, writes-refus
 use Rattle.refusals.proofs.Promises.{writes-fine, left-found, left-written}
 use Rattle.rules.specs.declared.line.Listed.{Listed}
 use Rattle.rules.specs.declared.line.Listed.the-variants as listed
-use Rattle.rules.specs.LineAll.{Lists, LineAllSearched}
+use Rattle.rules.specs.LineAll.{Lists}
+use Rattle.rules.specs.Scan.{ScanAllSearched}
 use Rattle.rules.specs.LineAll as line
 use Rattle.trees.specs.declared.search.TreeListed.{TreeListed}
 use Rattle.trees.specs.declared.search.TreeListed.the-variants as treed
@@ -23,25 +23,34 @@ use Rattle.trees.specs.TreeAll.{treeAllVerdict, TreeAllSearched}
 use Rattle.trees.specs.TreeAll as tree
 use Rattle.trees.specs.Search.{treeList}
 use Rattle.console.specs.Lines.{refusedLine, hitLine}
-use Rattle.console.specs.Replies.{searchVerdict, searchList, answerOf}
+use Rattle.console.specs.declared.judge.By.{By}
+use Rattle.console.specs.declared.judge.By.the-variants as by
+use Rattle.console.specs.Replies.{answerOf}
+use Rattle.console.specs.Judged.{verdictBy, listBy}
 
 -- ---- by the list or by the tree
 
-module _ (rs nodes pool h : List ℕ) {before after : List ℕ} where
-  -- the line search is the search by the list
+-- the refusal of a list is what the search by it refuses
+pub by-refused :
+    (rs nodes pool h : List ℕ) {before : List ℕ} {b : By} {why : Refusal} → b ≡ by.Refused why →
+    Lists (verdictBy b rs nodes pool h (length before)) (listBy b rs nodes pool h) before (listed.Refused why) before
+unfolding verdictBy listBy
+by-refused rs nodes pool h e = rw e (writes-refused refl refl refl)
+
+module _ (rs nodes pool h : List ℕ) {before after : List ℕ} {b : By} where
+  -- the scan is the search by a good list
   pub by-list :
-      {t : Bool} {r : Listed} → t ≡ false → LineAllSearched rs h before r after →
-      Lists (searchVerdict t rs nodes pool h (length before)) (searchList t rs nodes pool h) before r after
-  unfolding searchVerdict searchList
+      {r : Listed} → b ≡ by.List → ScanAllSearched rs h before r after →
+      Lists (verdictBy b rs nodes pool h (length before)) (listBy b rs nodes pool h) before r after
+  unfolding verdictBy listBy
   by-list e p = rw e p
 
   -- a tree search that refuses is the search by the tree
   pub by-tree-refused :
-      {t : Bool} {r : TreeListed} {why : Refusal} → t ≡ true → r ≡ treed.Refused why →
+      {r : TreeListed} {why : Refusal} → b ≡ by.Tree → r ≡ treed.Refused why →
       TreeAllSearched rs nodes pool h before r after →
-      Lists (searchVerdict t rs nodes pool h (length before)) (searchList t rs nodes pool h) before
-      (listed.Refused why) after
-  unfolding searchVerdict searchList
+      Lists (verdictBy b rs nodes pool h (length before)) (listBy b rs nodes pool h) before (listed.Refused why) after
+  unfolding verdictBy listBy
   by-tree-refused {why = why} e f p =
       let v : treeAllVerdict rs nodes pool h (length before) ≡ verdict.Refused why =
       refused-by (said-by p) (ap tree.paper f) in
@@ -49,11 +58,10 @@ module _ (rs nodes pool h : List ℕ) {before after : List ℕ} where
 
   -- so is one that finds numbers
   pub by-tree-found :
-      {t : Bool} {r : TreeListed} {n visited compared : ℕ} → t ≡ true → r ≡ treed.Found n visited compared →
+      {r : TreeListed} {n visited compared : ℕ} → b ≡ by.Tree → r ≡ treed.Found n visited compared →
       TreeAllSearched rs nodes pool h before r after →
-      Lists (searchVerdict t rs nodes pool h (length before)) (searchList t rs nodes pool h) before
-      (listed.Found n) after
-  unfolding searchVerdict searchList
+      Lists (verdictBy b rs nodes pool h (length before)) (listBy b rs nodes pool h) before (listed.Found n) after
+  unfolding verdictBy listBy
   by-tree-found {n = n} e f p =
       let v = fine-by (said-by p) (ap tree.paper f) in
       let count : n ≡ length (treeList rs nodes pool h) = (let q = v .1 in cc) in

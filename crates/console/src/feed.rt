@@ -1,7 +1,9 @@
 // A piece of input, line by line: each newline is answered.
 use crate::gather::Gathering;
 use crate::head::MOST_BYTES;
-use crate::reply::reply;
+use crate::judge::By;
+use crate::judge::by_of;
+use crate::reply::reply_by;
 use crate::say::refused_line;
 use refusals::Refusal;
 use text::cursor::Cursor;
@@ -13,6 +15,7 @@ ghost use mathlib.Core.Path.{_≡_};
 ghost use lib.ListN.{length};
 ghost use Rattle.text.specs.Said.{Said};
 ghost use Rattle.console.specs.Replies.{answerTo};
+ghost use Rattle.console.specs.Judged.{answerBy};
 ghost use Rattle.console.specs.Gathered.{gathering, replyAt, lastReply};
 ghost use Rattle.console.specs.LineEnds.{lineEnd};
 ghost use Rattle.console.specs.Feeding.{IsFed};
@@ -39,6 +42,24 @@ pub fn feed(
         (now (piece .entry)) (now (out .entry)) r (now (out .exit)) ⌝ }
     ensures bounded { λ r. ⌜ (r .taken ≤ length (now (piece .entry))) × (r .filled ≤ length (now (out .exit))) ⌝ }
 {
+    let by = by_of(rules, accepted);
+    feed_by(rules, nodes, pool, by, from, piece, out)
+}
+
+// The same, where it is settled by what headers are answered.
+fn feed_by(
+    rules: &[u32],
+    nodes: &[u32],
+    pool: &[u32],
+    by: By,
+    from: Gathering,
+    piece: &[u8],
+    out: &mut [u8],
+) -> Fed
+    ensures { λ r. ⌜ IsFed (answerBy by (now (rules .entry)) (now (nodes .entry)) (now (pool .entry))) from
+        (now (piece .entry)) (now (out .entry)) r (now (out .exit)) ⌝ }
+    ensures bounded { λ r. ⌜ (r .taken ≤ length (now (piece .entry))) × (r .filled ≤ length (now (out .exit))) ⌝ }
+{
     let mut gathering = from;
     let mut filled = 0;
     let mut taken = 0;
@@ -52,7 +73,7 @@ pub fn feed(
                 gathering: line,
             };
         }
-        match reply_at(rules, nodes, pool, accepted, line, &mut out[filled..]) {
+        match reply_at(rules, nodes, pool, by, line, &mut out[filled..]) {
             Written::Refused(_) => {
                 return Fed {
                     taken: end,
@@ -90,25 +111,16 @@ fn reply_at(
     rules: &[u32],
     nodes: &[u32],
     pool: &[u32],
-    accepted: bool,
+    by: By,
     line: Gathering,
     out: &mut [u8],
 ) -> Written
     ensures { λ r. ⌜ Said
-        (replyAt (answerTo accepted (now (rules .entry)) (now (nodes .entry)) (now (pool .entry))) line)
+        (replyAt (answerBy by (now (rules .entry)) (now (nodes .entry)) (now (pool .entry))) line)
         (now (out .entry)) r (now (out .exit)) ⌝ }
 {
     let held = line.held;
-    whole_line(
-        rules,
-        nodes,
-        pool,
-        accepted,
-        held,
-        line.count,
-        line.lines,
-        out,
-    )
+    whole_line(rules, nodes, pool, by, held, line.count, line.lines, out)
 }
 
 // The same of its parts: the first `count` bytes that are held, unless the line was too long.
@@ -116,20 +128,20 @@ fn whole_line(
     rules: &[u32],
     nodes: &[u32],
     pool: &[u32],
-    accepted: bool,
+    by: By,
     held: [u8; MOST_BYTES],
     count: usize,
     lines: usize,
     out: &mut [u8],
 ) -> Written
     ensures { λ r. ⌜ Said
-        (replyAt (answerTo accepted (now (rules .entry)) (now (nodes .entry)) (now (pool .entry)))
+        (replyAt (answerBy by (now (rules .entry)) (now (nodes .entry)) (now (pool .entry)))
         (gathering held count lines)) (now (out .entry)) r (now (out .exit)) ⌝ }
 {
     if MOST_BYTES < count {
         return refused_line(wrong(lines), out);
     }
-    reply(rules, nodes, pool, accepted, lines, &held[..count], out)
+    reply_by(rules, nodes, pool, by, lines, &held[..count], out)
 }
 
 // The reply at the end of input: nothing, or 10 to a last part without newline, of any length.

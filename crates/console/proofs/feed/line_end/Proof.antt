@@ -1,5 +1,4 @@
 -- `console::feed::line_end` meets its contract: the cursor's answer decides. Assumes nothing.
-use Prim.Native.Nat.{ℕ}
 use mathlib.Core.Path.{sym, ap, _∙_}
 use borrow.Author.Needs.{needs}
 use Rattle.console.specs.LineEnds.{onLineEnd, lineEnd}
@@ -18,7 +17,8 @@ enum-told c = search needs
 returns : tie.Need-returns
 unfolding lineEnd
 returns c =
-    let found = c .before .before .before in ap (onLineEnd _) (sym (c .before .end .given .1) ∙ found .line-end .ensures)
+    let found = c .before .before .before in
+    ap (onLineEnd _) (sym (c .before .end .given .1) ∙ found .line-end .ensures)
 
 returns-2 : tie.Need-returns-2
 unfolding lineEnd

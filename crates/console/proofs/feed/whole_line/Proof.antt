@@ -30,13 +30,13 @@ returns c =
 array-share-prefix-held : tie.Need-array-share-prefix-held
 array-share-prefix-held c = omega (arith, c .before .before .before .before .before .good .1 .1 .1 .1 .0)
 
-slice-aggregate-reply : tie.Need-slice-aggregate-reply
-slice-aggregate-reply c =
+slice-aggregate-reply-by : tie.Need-slice-aggregate-reply-by
+slice-aggregate-reply-by c =
     let good = c .before .before .before .before .before .before .good in
     sym (length-take-le _ _ (omega (arith, good .1 .1 .1 .1 .0)))
 
-reply-requires : tie.Need-reply-requires
-reply-requires c κs = search needs
+reply-by-requires : tie.Need-reply-by-requires
+reply-by-requires c κs = search needs
 
 same-length-2 : tie.Need-same-length-2
 same-length-2 c = search needs
@@ -47,7 +47,7 @@ returns-2 c =
     let test = line .before .before .before in
     let w = test .before .before .before .before .before in
     said-same (reply-held _ (gathering (w .args .t5) (w .args .count) (w .args .lines)) (test .if1 .left))
-    (line .reply .ensures)
+    (line .reply-by .ensures)
 
 pub whole-line-spec : {M : Type 1} → statement M
 whole-line-spec =
@@ -58,7 +58,7 @@ whole-line-spec =
     same-length
     returns
     array-share-prefix-held
-    slice-aggregate-reply
-    reply-requires
+    slice-aggregate-reply-by
+    reply-by-requires
     same-length-2
     returns-2)

@@ -3,7 +3,7 @@ use native.Mathlib.Omega.{arith}
 use mathlib.Core.Path.{sym}
 use lib.Seq.{length-take-le}
 use borrow.Author.Needs.{needs}
-use Rattle.console.specs.Replies.{answerTo}
+use Rattle.console.specs.Judged.{answerBy}
 use Rattle.text.proofs.Said.{said-same}
 use Rattle.console.proofs.Searching.{found-refused, found-fits, found-hit}
 use Rattle.console.proofs.reply.answer.Statement.{statement}
@@ -45,7 +45,7 @@ same-length : tie.Need-same-length
 same-length c = search needs
 
 returns : tie.Need-returns
-unfolding answerTo
+unfolding answerBy
 returns c =
     let line = c .before .before in
     let told = line .before .before .before in
@@ -56,7 +56,7 @@ same-length-2 : tie.Need-same-length-2
 same-length-2 c = search needs
 
 returns-2 : tie.Need-returns-2
-unfolding answerTo
+unfolding answerBy
 returns-2 c =
     let line = c .before .before in
     let told = line .before .before .before .before in

@@ -1,21 +1,15 @@
--- `console::reply::reply` meets its contract: the line is looked at, then the header is searched for. Assumes nothing.
-use mathlib.Core.Path.{refl, ap, _∙_}
+-- `console::reply::reply` meets its contract: the list is judged, and then the line is replied to. Assumes nothing.
 use borrow.Author.Needs.{needs}
-use Rattle.facts.proofs.Bools.{held, failed}
-use Rattle.console.specs.Lines.{refusedLine}
 use Rattle.text.proofs.Said.{said-same}
-use Rattle.console.proofs.Replying.{none-asked, one-asked}
+use Rattle.console.proofs.Judging.{judged-reply}
 use Rattle.console.proofs.reply.reply.Statement.{statement}
 use Rattle.console.proofs.reply.reply.Tie as tie
 
-head-in-requires : tie.Need-head-in-requires
-head-in-requires c κs = search needs
+by-of-requires : tie.Need-by-of-requires
+by-of-requires c κs = search needs
 
-wrong-requires : tie.Need-wrong-requires
-wrong-requires c κs = search needs
-
-refused-line-requires : tie.Need-refused-line-requires
-refused-line-requires c κs = search needs
+reply-by-requires : tie.Need-reply-by-requires
+reply-by-requires c κs = search needs
 
 same-length : tie.Need-same-length
 same-length c = search needs
@@ -23,36 +17,7 @@ same-length c = search needs
 returns : tie.Need-returns
 returns c =
     let said = c .before .before in
-    let test = said .before .before .before in
-    let none = none-asked _ _ _ (test .before .before .before .head-in .ensures) (failed refl (test .if1 .taken)) in
-    said-same (ap refusedLine (said .before .before .wrong .ensures) ∙ none) (said .refused-line .ensures)
-
-slice-aggregate-answer : tie.Need-slice-aggregate-answer
-slice-aggregate-answer c = search needs
-
-answer-requires : tie.Need-answer-requires
-answer-requires c κs = search needs
-
-same-length-2 : tie.Need-same-length-2
-same-length-2 c = search needs
-
-returns-2 : tie.Need-returns-2
-returns-2 c =
-    let said = c .before .before in
-    let test = said .before .before .before in
-    said-same (one-asked _ _ _ (test .before .before .before .head-in .ensures) (held refl (test .if1 .left)))
-    (said .answer .ensures)
+    said-same (judged-reply _ _ _ _ (said .before .before .by-of .ensures) _ _) (said .reply-by .ensures)
 
 pub reply-spec : {M : Type 1} → statement M
-reply-spec =
-    tie.close
-    (tie.spec
-    head-in-requires
-    wrong-requires
-    refused-line-requires
-    same-length
-    returns
-    slice-aggregate-answer
-    answer-requires
-    same-length-2
-    returns-2)
+reply-spec = tie.close (tie.spec by-of-requires reply-by-requires same-length returns)

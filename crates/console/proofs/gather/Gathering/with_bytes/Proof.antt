@@ -40,7 +40,8 @@ loop-less c = omega arith
 
 loop-again : tie.Need-loop-again Inv-loop μ-loop
 loop-again c =
-    let test = c .before .before in joining-step (test .before .loop .inv) (test .loop-test .taken) (c .before .if1 .left)
+    let turn = c .before .before in
+    joining-step (turn .before .loop .inv) (turn .loop-test .taken) (c .before .if1 .left)
 
 returns-2 : tie.Need-returns-2 Inv-loop μ-loop
 returns-2 c = joining-last (c .before .loop .inv) (c .loop-test .left)

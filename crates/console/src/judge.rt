@@ -1,0 +1,26 @@
+// By what headers are answered. The list is judged here, once for all lines of a piece of input.
+use refusals::Refusal;
+use refusals::Verdict;
+use rules::check::list_verdict;
+ghost use mathlib.Core.Path.{_≡_};
+ghost use Rattle.console.specs.Judged.{byOf};
+
+// The tree; the list, which is good; or the refusal of the list, which answers every header.
+pub(crate) enum By {
+    Tree,
+    List,
+    Refused(Refusal),
+}
+
+// The tree if the tree check accepted it. Else the list is judged.
+pub(crate) fn by_of(rules: &[u32], accepted: bool) -> By
+    ensures { λ r. ⌜ r ≡ byOf accepted (now (rules .entry)) ⌝ }
+{
+    if accepted {
+        return By::Tree;
+    }
+    match list_verdict(rules) {
+        Verdict::Refused(why) => By::Refused(why),
+        Verdict::Fine => By::List,
+    }
+}

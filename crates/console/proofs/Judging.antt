@@ -1,5 +1,5 @@
--- The list is judged once: by what headers are then answered, and that they get the answers that they get where the
--- list is judged for each of them.
+-- The list is judged once: what then answers headers, and that it answers each header as if the list were judged for
+-- that one.
 use Prim.Native.Nat.{ℕ}
 use mathlib.Core.Bool.{Bool, true, false}
 use mathlib.Core.Path.{_≡_, refl, ap, _∙_, subst, fun-ext}
@@ -25,7 +25,7 @@ module _ (rs : List ℕ) {t : Bool} where
   unfolding byOf
   tree-serves e = rw e
 
-  -- else the list does, as it is judged
+  -- else the verdict on the list decides
   pub list-serves : {v : Verdict} → t ≡ false → listVerdict rs ≡ v → onVerdict v ≡ byOf t rs
   unfolding byOf
   list-serves e f = rw (e, f)
@@ -47,12 +47,12 @@ module _ (rs nodes pool : List ℕ) where
     same-answers : answerBy b rs nodes pool ≡ answerTo t rs nodes pool
     same-answers = ap (λ (x : By). answerBy x rs nodes pool) e ∙ fun-ext (judged-answer t)
 
-    -- a line gets the reply that it gets where the list is judged for it
+    -- a line gets the same reply as if the list were judged for it
     pub judged-reply :
         (k : ℕ) (l : List ℕ) → lineReply (answerBy b rs nodes pool) k l ≡ lineReply (answerTo t rs nodes pool) k l
     judged-reply k l = ap (λ (f : List ℕ → List ℕ). lineReply f k l) same-answers
 
-    -- and a piece of input the replies that it gets where the list is judged for each line
+    -- and a piece of input gets the same replies as if the list were judged for each line
     pub judged-fed :
         {g : Gathering} {bs before : List ℕ} {r : Fed} {new : List ℕ} →
         IsFed (answerBy b rs nodes pool) g bs before r new → IsFed (answerTo t rs nodes pool) g bs before r new

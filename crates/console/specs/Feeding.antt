@@ -1,6 +1,6 @@
 -- A piece of input, answered as far as there is room. Definitions only.
---   takenOf answer room g bs    how many of the bytes bs are taken, from the state g on: as many as have their replies
---                               in the room, in turn
+--   takenOf answer room g bs    how many of the bytes bs are taken, from the state g on: all before the first byte
+--                               whose reply does not fit in what is left of the room
 --   IsFed                       the promise: so many bytes are taken, the state is the one after them, and their
 --                               replies are in front of the lent bytes; the rest is as found
 use Prim.Native.Nat.{ℕ, _+_, _-_}

@@ -3,7 +3,7 @@
 --   begun                the state before the first byte
 --   step g b             the state g after the byte b
 --   replyAt answer g     what is replied to the line that g holds, once it is whole
---   said answer g b      what is replied at the byte b: nothing but at a newline
+--   said answer g b      what is replied at the byte b: nothing unless it is a newline
 --   after g bs           the state after the bytes bs
 --   answers answer g bs  what is replied to them
 --   lastReply g          what is replied at the end of input: nothing, or 10 to a last part without newline

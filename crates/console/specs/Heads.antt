@@ -1,5 +1,5 @@
 -- An input line that asks about a header: `head`, two addresses, two ports and a protocol. Definitions only.
---   mostBytes      the most bytes of an input line, its newline apart
+--   mostBytes      the most bytes of an input line without its newline
 --   headTest vs    the octets among the numbers vs of such a line are octets
 --   headerOf vs    the header that these numbers say
 --   headIn l       the header that the line l asks about, if it is not too long and asks about one

@@ -1,4 +1,4 @@
--- By what headers are answered, the list being judged once for many of them. Definitions only.
+-- What answers headers, where the list is judged once for many of them. Definitions only.
 --   byOf t rs           the tree if t is true, which says that it was accepted; else the list rs, or its refusal
 --   verdictBy by .. h room    what the search for all matches refuses: a good list is scanned, and a list that is not
 --                       good is refused, whatever the header

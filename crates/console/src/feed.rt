@@ -46,7 +46,7 @@ pub fn feed(
     feed_by(rules, nodes, pool, by, from, piece, out)
 }
 
-// The same, where it is settled by what headers are answered.
+// The same, once it is known what answers headers.
 fn feed_by(
     rules: &[u32],
     nodes: &[u32],
@@ -95,7 +95,7 @@ fn feed_by(
     }
 }
 
-// The place of the next newline, or the end of the piece where there is none.
+// The place of the next newline from `from` on, or the end of the piece where there is none.
 fn line_end(piece: &[u8], from: usize) -> usize
     ensures { λ r. ⌜ r ≡ lineEnd (now (piece .entry)) from ⌝ }
 {
@@ -123,7 +123,7 @@ fn reply_at(
     whole_line(rules, nodes, pool, by, held, line.count, line.lines, out)
 }
 
-// The same of its parts: the first `count` bytes that are held, unless the line was too long.
+// The same, from the parts of the line: its bytes are the first `count` that are held, unless it was too long.
 fn whole_line(
     rules: &[u32],
     nodes: &[u32],

@@ -11,7 +11,7 @@ ghost use mathlib.Core.Path.{_≡_};
 ghost use mathlib.Core.Option.{none};
 ghost use Rattle.console.specs.Heads.{headAt, headFrom, inHead};
 
-// The most bytes of an input line, its newline apart.
+// The most bytes of an input line without its newline.
 pub const MOST_BYTES: usize = 64;
 
 // Whether a line asks about a header, and which; 0 for each word where it does not.
@@ -20,7 +20,7 @@ pub struct Head {
     pub header: [u32; FIELDS],
 }
 
-// The header that a line asks about, its newline apart.
+// The header that a line without its newline asks about.
 pub fn head_in(line: &[u8]) -> Head
     ensures { λ r. ⌜ r ≡ headAt (now (line .entry)) ⌝ }
 {

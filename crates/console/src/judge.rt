@@ -1,4 +1,4 @@
-// By what headers are answered. The list is judged here, once for all lines of a piece of input.
+// What answers headers: the tree or the list. The list is judged here, once for all lines that a call is given.
 use refusals::Refusal;
 use refusals::Verdict;
 use rules::check::list_verdict;

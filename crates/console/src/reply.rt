@@ -17,8 +17,8 @@ ghost use Rattle.text.specs.Said.{Said};
 ghost use Rattle.console.specs.Replies.{answerTo, lineReply};
 ghost use Rattle.console.specs.Judged.{verdictBy, listBy, answerBy};
 
-// The reply to a line, its newline apart, that has so many lines before it: by the tree if the tree check accepted it,
-// else by the list. A refusal writes nothing.
+// The reply to a line without its newline, which has `lines` lines before it: by the tree if the tree check accepted
+// it, else by the list. A refusal writes nothing.
 pub fn reply(
     rules: &[u32],
     nodes: &[u32],
@@ -35,7 +35,7 @@ pub fn reply(
     reply_by(rules, nodes, pool, by, lines, line, out)
 }
 
-// The same, where it is settled by what headers are answered.
+// The same, once it is known what answers headers.
 pub(crate) fn reply_by(
     rules: &[u32],
     nodes: &[u32],
@@ -75,7 +75,7 @@ fn answer(
     }
 }
 
-// Every number that matches, by the tree or by the list.
+// Every number that matches, by the tree or by the list; or the refusal of the list.
 fn search(
     rules: &[u32],
     nodes: &[u32],

@@ -11,7 +11,7 @@ use borrow.Author.Tests.{ltb-true, lt-ltb, eqb-true, eq-eqb}
 use Rattle.facts.proofs.Bools.{same-test}
 use Rattle.facts.proofs.Cases.{WithinOrOver, within-or-over, atMost, over}
 
--- a power of two that is shifted by more places than it has is 0, and more places do not matter
+-- a power of two below 2^63 that is shifted to the right by 63 places is 0, and more places change nothing
 pub shifted-away : (w len : ℕ) → w < 63 → 2 ^ w / 2 ^ min len 63 ≡ 2 ^ w / 2 ^ len
 shifted-away w len l = by (within-or-over len 63)
   where
@@ -34,7 +34,7 @@ no-bit-differs a b = same-test (eqb (bitXor a b) 0) (eqb a b) to of
     of : eqb a b ≡ true → eqb (bitXor a b) 0 ≡ true
     of e = eq-eqb (bitXor a b) 0 (ap (bitXor a) (sym (eqb-true a b e)) ∙ xor-self a)
 
--- a number is below another exactly where the quotient is 0
+-- a number is below another, which is not 0, exactly where their quotient is 0
 pub below-is-none : (d s : ℕ) → 0 < s → ltb d s ≡ eqb (d / s) 0
 below-is-none d s pos = same-test (ltb d s) (eqb (d / s) 0) to of
   where

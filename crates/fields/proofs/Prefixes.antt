@@ -17,8 +17,8 @@ use Rattle.fields.specs.Prefixes.{span, prefixGood, prefixAgrees, prefix
 
 -- ---- the tests, as the code makes them
 
--- the bits in which two words differ make a number below that of the words that share their first bits exactly where
--- those agree; and there is no such number where the length is over the width
+-- the first bits of two words agree exactly where the bits in which the two differ make a number below 2^w shifted to
+-- the right by the length; where the length is over the width, that is 0, and no number is below it
 pub difference-agrees :
     (w address len x : ℕ) → ltb (bitXor address x) (2 ^ w / 2 ^ len) ≡ prefixAgrees w address len x
 unfolding prefixAgrees span

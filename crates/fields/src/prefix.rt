@@ -7,7 +7,7 @@ ghost use Rattle.fields.specs.Prefixes.{span, prefixGood, prefixAgrees, 
 // The number of an address's bits.
 pub const ADDRESS_BITS: u32 = 32;
 
-// The number of words with so many bits.
+// The number of words of `ADDRESS_BITS` bits.
 const ALL_WORDS: u64 = 4_294_967_296;
 
 // The most places by which a u64 can be shifted.
@@ -23,8 +23,8 @@ pub fn prefix_good(address: u32, len: u32) -> bool
     first_bits(address, len) << in_64_bits(ADDRESS_BITS - len) == in_64_bits(address)
 }
 
-// Whether the first `len` bits of the address and of the word agree: the bits in which the two differ then make a
-// number below that of the words that share their first bits. A length over that of an address agrees with nothing, and
+// Whether the first `len` bits of the address and of the word agree. The bits in which the two differ then are none of
+// the first, so they make a number below `sharing(len)`. A length over that of an address agrees with nothing, and
 // length 0 with everything.
 pub fn prefix_agrees(address: u32, len: u32, word: u32) -> bool
     ensures { λ r. ⌜ r ≡ prefixAgrees addressBits address len word ⌝ }
@@ -39,7 +39,7 @@ fn sharing(len: u32) -> u64
     ALL_WORDS >> in_64_bits(places(len))
 }
 
-// The length as a number of places to shift by.
+// The number of places to shift by: the length, but no more than a u64 can be shifted by.
 fn places(len: u32) -> u32
     ensures { λ r. ⌜ r ≡ min len 63 ⌝ }
 {

@@ -35,7 +35,7 @@ use Rattle.rules.proofs.Lists.{fine-iff-good}
 pub five-words : (h : List ℕ) → headerVerdict h ≡ Fine → length h ≡ fieldCount
 five-words h e = legal-iff h .0 e .0
 
--- a good list has few rules
+-- a good list has at most `mostRules` rules
 few-rules : (rs : List ℕ) → listVerdict rs ≡ Fine → ruleCount rs ≤ mostRules
 few-rules rs e = let g = fine-iff-good rs .0 e in omega (arith, g .whole, g .few)
 
@@ -44,18 +44,18 @@ pub scan-count-at-most : (rs : List ℕ) → scanCount rs ≤ ruleCount rs
 unfolding scanCount
 scan-count-at-most rs = min-le-left (ruleCount rs) mostScanned
 
--- and each of them has a word for its number
+-- and no more than have a word of 32 bits for their number
 pub scan-count-fits : (rs : List ℕ) → scanCount rs ≤ mostScanned
 unfolding scanCount
 scan-count-fits rs = min-le-right (ruleCount rs) mostScanned
 
 module _ (rs h : List ℕ) where
-  -- of a list that is not longer than the most, a scan looks at all rules
+  -- in a list of at most `mostScanned` rules a scan finds all that match
   pub scanned-of-few : ruleCount rs ≤ mostScanned → scanned rs h ≡ matching rs h
   unfolding scanned scanCount matching
   scanned-of-few few = rw (min-eq-left few)
 
-  -- so it does of a good list
+  -- so it does in a good list
   pub scanned-of-good : listVerdict rs ≡ Fine → scanned rs h ≡ matching rs h
   scanned-of-good e = scanned-of-few (omega (arith, few-rules rs e))
 
@@ -120,14 +120,14 @@ first-kept p k {n} (r ∷ rest) e q =
     omega (arith, up-iff k r .0 (kept .0))
 
 module _ (rs h : List ℕ) {n : ℕ} where
-  -- a rule that is found has a word for its number
+  -- a rule that a scan finds has a word of 32 bits for its number
   pub scan-first-below : ScanFirstSearched rs h (first.Rule n) → n < mostScanned
   unfolding scanned
   scan-first-below p =
       let below = first-kept (matches rs h) (scanCount rs) (scanned rs h) refl (fine-by p refl .1) in
       omega (arith, below, scan-count-fits rs)
 
-  -- and in a good list it is one of the few
+  -- and one that the line search finds has a number below `mostRules`
   pub first-below : LineFirstSearched rs h (first.Rule n) → n < mostRules
   unfolding matching
   first-below p =

@@ -4,7 +4,7 @@
 --   readBehind m bs         a number of 32 bits behind the separator m
 --   fieldsFrom vs ms bs     the numbers vs so far, then a number behind each separator of ms
 --   readFields w ms bs      the word w and a number behind each separator of ms at the front of bs
---   readLine w ms l         the numbers of the line l, if it is a line of this format, its newline apart
+--   readLine w ms l         the numbers of the line l, without its newline, if it is a line of this format
 --   readCounted w l         those of a line of numbers behind tabs, of which the second says how many follow it
 --   printLine w ms vs       the line of this format with the numbers vs
 --   ended l                 a line with its newline

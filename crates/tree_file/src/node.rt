@@ -53,7 +53,7 @@ pub(crate) fn node_line(
     }
 }
 
-// The line, its newline apart: a cut's, or else a leaf's.
+// The line without its newline: a cut's, or else a leaf's.
 fn node_in(
     line: &[u8],
     here: Cursor,

@@ -7,7 +7,7 @@ ghost use Rattle.tree_file.specs.Reading as read;
 ghost use Rattle.exports.specs.Answers.{plainly, asEight};
 ghost use Rattle.exports.specs.Calls.{TreeWriteAnswered, TreeReadAnswered};
 
-// The value: the bytes that were written to `text`, there being `rules` rules.
+// The value: the bytes that were written to `text`. The tree is for `rules` rules.
 #[no_mangle]
 pub extern "C" fn wick_tree_write(
     rules: u64,

@@ -2,7 +2,7 @@
 ghost use Prim.Native.Nat.{min};
 ghost use mathlib.Core.Path.{_≡_};
 
-// It was not read to its end, or is too long; or so many bytes, which stand in front of a buffer.
+// It was not read to its end, or is too long; or it has `count` bytes, which stand in front of a buffer.
 pub enum File {
     NotRead,
     Bytes { count: usize },

@@ -61,7 +61,7 @@ fn by_list(why: Refusal) -> Serving
     }
 }
 
-// The tree serves, with so many node words and pool words.
+// The tree serves, with `nodes` node words and `pool` pool words.
 fn by_tree(nodes: usize, pool: usize) -> Serving
     ensures { λ r. ⌜ r ≡ byTree nodes pool ⌝ }
 {

@@ -3,8 +3,8 @@
 //   check::rule_check     whether the list is good: 1, 2; gives the number of rules
 //   line::line_all        every number that matches a header, rising, into lent words: 1, 2, 3, 4
 //   line::line_first      the lowest number that matches a header: 1, 2, 3
-//   line::scan_all        the same as line_all, of any words: the list is not judged: 3, 4
-//   line::scan_first      the same as line_first, of any words: the list is not judged: 3
+//   line::scan_all        as line_all, but the list is not judged: 3, 4
+//   line::scan_first      as line_first, but the list is not judged: 3
 //   check::list_verdict   what rule_check refuses, for the calls that take a list
 //   words::rule_there     whether a rule is wholly lent
 //   matching::rule_matches    whether a rule is there and matches a header

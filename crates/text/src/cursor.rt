@@ -220,7 +220,7 @@ impl Cursor {
     }
 }
 
-// The refusal of a line, so many whole lines standing before it.
+// The refusal of a line that has `lines` whole lines before it.
 pub fn wrong(lines: usize) -> Refusal
     ensures { λ r. ⌜ r ≡ wrongAt lines ⌝ }
 {

@@ -44,7 +44,7 @@ pub fn end_line(text: &[u8], here: Cursor, complete: bool, before: usize) -> End
     }
 }
 
-// The end line of a text with so many lines before it.
+// The end line of a text, which has `before` lines before it.
 pub fn put_end(out: &mut [u8], at: usize, before: u32) -> usize
     ensures { λ r. ⌜ Put (now (out .entry)) at (ended (endLine before)) (now (out .exit)) r ⌝ }
 {

@@ -2,7 +2,7 @@
 --   mostCuts                     the most cuts above a leaf
 --   Whole nodes pool k b i e     the nodes from i up to e are one part in preorder: i's whole part, for box b, with at
 --                                most k cuts above any of its leaves
---   WellFormed n nodes pool      spelt, there being n rules, and the root's part ends at the last node
+--   WellFormed n nodes pool      spelt for n rules, and the root's part ends at the last node
 --   Proper rs nodes pool         the list is good, the sizes hold, and the tree is well formed
 use Prim.Native.Nat.{ℕ, suc, _+_, _≤_, _<_}
 use mathlib.Core.Bool.{true}

@@ -50,7 +50,7 @@ pub enum Look {
     },
 }
 
-// The part that begins at a node, for a box, with so many more cuts allowed: a cut, then its left part, then its right
+// The part that begins at a node, for a box, with `cuts` more cuts allowed: a cut, then its left part, then its right
 // child's number, then its right part.
 pub(crate) fn part_of(
     rules: &[u32],
@@ -109,7 +109,7 @@ pub(crate) fn part_of(
     }
 }
 
-// What stands at a node, for a box, with so many more cuts allowed: the depth is looked at before the value.
+// What stands at a node, for a box, with `cuts` more cuts allowed: the depth is looked at before the value.
 fn look_at(nodes: &[u32], at: usize, bounds: Bounds, cuts: usize) -> Look
     ensures { λ r. ⌜ r ≡ lookAt (now (nodes .entry)) cuts bounds at ⌝ }
 {

@@ -32,8 +32,8 @@ ghost use Rattle.tree_file.specs.TreeLines.{firstLine, nodeLine, leafMar
 ghost use Rattle.tree_file.specs.Writing.{spellingVerdict, TreeWritten};
 ghost use Rattle.tree_file.specs.WriteSteps.{Writable};
 
-// The file of a tree, there being so many rules, from the front of `text` on; the rest of `text` is as found. A refusal
-// writes nothing: the file is written once into no room, which counts its bytes, then into the whole.
+// The file of a tree for `rules` rules, from the front of `text` on; the rest of `text` is as found. A refusal writes
+// nothing: the file is written once into no room, which counts its bytes, then into the whole.
 pub fn tree_write(rules: usize, nodes: &[u32], pool: &[u32], text: &mut [u8]) -> Written
     ensures { λ r. ⌜ TreeWritten rules (now (nodes .entry)) (now (pool .entry)) (now (text .entry)) r
         (now (text .exit)) ⌝ }

@@ -2,7 +2,7 @@
 --   isCut nodes i            the first word of node i is a field
 --   leafCount nodes i        the count of leaf i; 0 for a cut
 --   countsBelow nodes i      the sum of the counts of the leaves numbered below i
---   leafSpelt n nodes pool i      leaf i is spelt, there being n rules: its start, its count, its end, its entries
+--   leafSpelt n nodes pool i      leaf i is spelt for n rules: its start, its count, its end, its entries
 --   nodeVerdict n nodes pool i    6 at node i for its first word or right child, 7 for the rest
 --   speltVerdict n nodes pool     the nodes in turn; then 7 at the node count, where all counts do not make the pool
 --   SpeltLeaf, Spelt              the same, as facts

@@ -36,7 +36,7 @@ pub fn size_verdict(nodes: &[u32], pool: &[u32]) -> Verdict
     Verdict::Fine
 }
 
-// Whether the nodes are spelt, from the lowest, and all counts together make the pool, there being so many rules.
+// Whether the nodes are spelt for `rules` rules, from the lowest, and all counts together make the pool.
 pub fn spelt_verdict(rules: usize, nodes: &[u32], pool: &[u32]) -> Verdict
     ensures { λ r. ⌜ r ≡ speltVerdict rules (now (nodes .entry)) (now (pool .entry)) ⌝ }
 {

@@ -21,7 +21,7 @@ pub enum Step {
     Next(usize),
 }
 
-// Where a walk ends: at a node that is wrong, or at a leaf, after so many nodes, root and leaf included.
+// Where a walk ends: at a node that is wrong; or at a leaf, with the number of nodes visited, root and leaf included.
 pub enum Walked {
     Lost { node: usize },
     Came { leaf: usize, visited: usize },

@@ -52,7 +52,7 @@ pub(crate) fn read_nodes(example: &[u8], text: &[u8], nodes: &mut [u32], pool: &
     end();
 }
 
-// The bytes of a tree's text, there being so many rules.
+// The bytes of the text of a tree for `rules` rules.
 pub(crate) fn write_nodes(
     example: &[u8],
     rules: usize,

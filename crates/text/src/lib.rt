@@ -6,6 +6,8 @@
 //   put::put_bytes, put_behind, put_wide, put      its parts: a word; a number behind a separator; one byte
 //   put::Written                                   the answer of a call that counts some bytes and then puts them
 //   end::end_line, put_end                         the end line of a file, read and written
+//   cursor::wrong                                  the refusal of a wrong line
+//   place::following, within                       the next place or count; a place that is kept within a size
 //   address::octets_fit, address_of                the address of four octets
 //   words                                          the fixed words and separators
 // Each takes any bytes and any places. Rests on facts, lent and refusals.

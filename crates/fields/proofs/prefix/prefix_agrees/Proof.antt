@@ -1,5 +1,5 @@
--- `fields::prefix::prefix_agrees` meets its contract: the bits in which the two differ are below what is shared exactly
--- where the first bits agree. Assumes nothing.
+-- `fields::prefix::prefix_agrees` meets its contract: the bits in which the two differ make a number below that of
+-- `sharing` exactly where the first bits agree. Assumes nothing.
 use mathlib.Core.Path.{ap₂, _∙_}
 use lib.Dec.{ltb}
 use borrow.Author.Needs.{needs}

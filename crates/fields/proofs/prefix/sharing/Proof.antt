@@ -1,4 +1,4 @@
--- `fields::prefix::sharing` meets its contract: a shift to the right divides by a power of two. Assumes nothing.
+-- `fields::prefix::sharing` meets its contract: a shift divides, and places past 63 change nothing. Assumes nothing.
 use native.Mathlib.Omega.{arith}
 use borrow.Author.Needs.{needs}
 use Rattle.facts.proofs.Bits.{shifted-away}

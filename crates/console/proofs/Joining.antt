@@ -11,7 +11,7 @@ use Rattle.text.proofs.Plain.{Plain}
 use Rattle.text.proofs.Texts.{next-none}
 use Rattle.console.specs.declared.gather.Gathering.{Gathering}
 use Rattle.console.specs.Heads.{mostBytes}
-use Rattle.console.specs.Gathered.{gathering, step, after}
+use Rattle.console.specs.Gathered.{gathering, after}
 use Rattle.console.proofs.Gathering.{step-held, step-over}
 
 -- a line that is full is too long with any byte more

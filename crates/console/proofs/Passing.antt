@@ -19,7 +19,7 @@ use Rattle.text.proofs.Plain.{Plain}
 use Rattle.text.proofs.Texts.{Found, next-found, next-none}
 use Rattle.text.proofs.NextLines.{EndAt, line-end-at, line-end-refused}
 use Rattle.console.specs.declared.gather.Gathering.{Gathering}
-use Rattle.console.specs.Gathered.{step, after, said, answers}
+use Rattle.console.specs.Gathered.{step, after, answers}
 use Rattle.console.specs.LineEnds.{onLineEnd, lineEnd}
 use Rattle.console.specs.Feeding.{takenOf}
 use Rattle.console.proofs.Gathering.{said-none}

@@ -11,16 +11,16 @@ use borrow.Author.Tests.{ltb-true, lt-ltb, eqb-true, eq-eqb}
 use Rattle.facts.proofs.Bools.{same-test}
 use Rattle.facts.proofs.Cases.{WithinOrOver, within-or-over, atMost, over}
 
--- a power of two below 2^63 that is shifted to the right by 63 places is 0, and more places change nothing
-pub shifted-away : (w len : ℕ) → w < 63 → 2 ^ w / 2 ^ min len 63 ≡ 2 ^ w / 2 ^ len
-shifted-away w len l = by (within-or-over len 63)
+-- a power of two that is shifted to the right by most places is 0, where it has fewer, and more places change nothing
+pub shifted-away : (w len most : ℕ) → w < most → 2 ^ w / 2 ^ min len most ≡ 2 ^ w / 2 ^ len
+shifted-away w len most l = by (within-or-over len most)
   where
-    by : WithinOrOver len 63 → 2 ^ w / 2 ^ min len 63 ≡ 2 ^ w / 2 ^ len
+    by : WithinOrOver len most → 2 ^ w / 2 ^ min len most ≡ 2 ^ w / 2 ^ len
     by (atMost h) = rw (min-eq-left h)
     by (over h) =
         let over-w : w < len = omega arith in
-        let most : min len 63 ≡ 63 = min-eq-right (omega arith) in
-        rw most (div-eq-of-lt (pow-lt l) ∙ sym (div-eq-of-lt (pow-lt over-w)))
+        let capped : min len most ≡ most = min-eq-right (omega arith) in
+        rw capped (div-eq-of-lt (pow-lt l) ∙ sym (div-eq-of-lt (pow-lt over-w)))
 
 -- two numbers are equal exactly where none of their bits differs
 pub no-bit-differs : (a b : ℕ) → eqb (bitXor a b) 0 ≡ eqb a b
@@ -35,8 +35,8 @@ no-bit-differs a b = same-test (eqb (bitXor a b) 0) (eqb a b) to of
     of e = eq-eqb (bitXor a b) 0 (ap (bitXor a) (sym (eqb-true a b e)) ∙ xor-self a)
 
 -- a number is below another, which is not 0, exactly where their quotient is 0
-pub below-is-none : (d s : ℕ) → 0 < s → ltb d s ≡ eqb (d / s) 0
-below-is-none d s pos = same-test (ltb d s) (eqb (d / s) 0) to of
+pub below-as-quotient : (d s : ℕ) → 0 < s → ltb d s ≡ eqb (d / s) 0
+below-as-quotient d s pos = same-test (ltb d s) (eqb (d / s) 0) to of
   where
     to : ltb d s ≡ true → eqb (d / s) 0 ≡ true
     to e = eq-eqb (d / s) 0 (div-eq-of-lt (ltb-true d s e))

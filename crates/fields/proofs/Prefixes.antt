@@ -11,7 +11,7 @@ use lib.Pow.{pow-pos, pow-mono, pow-lt, pow-add, shl-exact, shl-shr}
 use borrow.Author.Tests.{le-leb, lt-leb, eqb-true, eq-eqb, le-ltb}
 use Rattle.facts.proofs.Bools.{both, join, same-test}
 use Rattle.facts.proofs.Cases.{WithinOrOver, within-or-over, atMost, over}
-use Rattle.facts.proofs.Bits.{no-bit-differs, below-is-none}
+use Rattle.facts.proofs.Bits.{no-bit-differs, below-as-quotient}
 use Rattle.fields.specs.Ranges.{rangesMeet}
 use Rattle.fields.specs.Prefixes.{span, prefixGood, prefixAgrees, prefixMeets}
 
@@ -37,7 +37,7 @@ difference-agrees w address len x = by (within-or-over len w)
 
     below-shared : ltb d s ≡ eqb (address / s) (x / s)
     below-shared =
-        below-is-none d s (pow-pos (w - len)) ∙ ap (λ (n : ℕ). eqb n 0) (xor-shr address x (w - len)) ∙
+        below-as-quotient d s (pow-pos (w - len)) ∙ ap (λ (n : ℕ). eqb n 0) (xor-shr address x (w - len)) ∙
         no-bit-differs (address / s) (x / s)
 
     by : WithinOrOver len w → ltb d (2 ^ w / 2 ^ len) ≡ (leb len w && eqb (address / s) (x / s))

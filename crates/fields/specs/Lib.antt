@@ -2,6 +2,7 @@
 pub mod Words
 pub mod Headers
 pub mod Prefixes
+pub mod PrefixSteps
 pub mod Ranges
 pub mod Fields
 pub mod Boxes

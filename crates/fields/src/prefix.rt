@@ -3,6 +3,7 @@ ghost use Prim.Native.Nat.{_/_, _^_, _≤_, min};
 ghost use mathlib.Core.Path.{_≡_};
 ghost use Rattle.fields.specs.Words.{addressBits};
 ghost use Rattle.fields.specs.Prefixes.{span, prefixGood, prefixAgrees, prefixMeets};
+ghost use Rattle.fields.specs.PrefixSteps.{mostPlaces};
 
 // The number of an address's bits.
 pub const ADDRESS_BITS: u32 = 32;
@@ -41,7 +42,7 @@ fn sharing(len: u32) -> u64
 
 // The number of places to shift by: the length, but no more than a u64 can be shifted by.
 fn places(len: u32) -> u32
-    ensures { λ r. ⌜ r ≡ min len 63 ⌝ }
+    ensures { λ r. ⌜ r ≡ min len mostPlaces ⌝ }
 {
     if MOST_PLACES < len {
         return MOST_PLACES;

@@ -3,6 +3,7 @@ use native.Mathlib.Omega.{arith}
 use borrow.Author.Needs.{needs}
 use Rattle.facts.proofs.Bits.{shifted-away}
 use Rattle.fields.specs.Words.{addressBits}
+use Rattle.fields.specs.PrefixSteps.{mostPlaces}
 use Rattle.fields.proofs.prefix.sharing.Statement.{statement}
 use Rattle.fields.proofs.prefix.sharing.Tie as tie
 
@@ -16,7 +17,7 @@ shr-result : tie.Need-shr-result
 shr-result c = search needs
 
 returns : tie.Need-returns
-returns c = rw (c .in-64-bits .ensures, c .before .places .ensures) (shifted-away addressBits _ (omega arith))
+returns c = rw (c .in-64-bits .ensures, c .before .places .ensures) (shifted-away addressBits _ mostPlaces (omega arith))
 
 pub sharing-spec : {M : Type 1} → statement M
 sharing-spec = tie.close (tie.spec places-requires in-64-bits-requires shr-result returns)

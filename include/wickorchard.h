@@ -59,8 +59,8 @@ typedef __UINT64_TYPE__ uint64_t;
 extern "C" {
 #endif
 
-/* What a call answers. Each call writes all eight words. It names those of a to e that it gives; the others are 0. On a
- * refusal a to e are all 0. */
+/* What a call answers. Each call writes all eight words. The comment above a call names those of a to e that it gives;
+ * the others are 0. On a refusal a to e are all 0. */
 typedef struct wick_answer {
     uint64_t number; /* 0 where the call completed, else the refusal's number */
     uint64_t place;  /* where: a rule, a field, a node, a line, or how much room is needed; 0 where it completed */
@@ -68,10 +68,11 @@ typedef struct wick_answer {
     uint64_t a, b, c, d, e;
 } wick_answer;
 
-/* The numbers of the refusals. Each call names those that it gives, in the order in which they are looked for. */
+/* The numbers of the refusals. The comment above a call names those that it gives, in the order in which it looks for
+ * them. */
 enum {
     WICK_COMPLETED = 0,
-    /* Rule words not a multiple of ten, or over 5,120; or a tree to write that is for more than 512 rules. */
+    /* The rule words are not a multiple of ten, or over 5,120; or a tree to write is for more than 512 rules. */
     WICK_RULE_WORDS_WRONG = 1,
     /* A rule is not good: place is the lowest such rule. */
     WICK_RULE_NOT_GOOD = 2,
@@ -79,12 +80,12 @@ enum {
     WICK_HEADER_WRONG = 3,
     /* The lent output is too short: place is how many words or bytes are needed; extra is 1 where the pool is meant. */
     WICK_OUTPUT_SHORT = 4,
-    /* Node words none, not a multiple of three, or over 6,141; or a pool over 4,096 words. */
+    /* There are no node words, they are not a multiple of three, or over 6,141; or the pool is over 4,096 words. */
     WICK_TREE_WORDS_WRONG = 5,
     /* A node is wrong, missing or left over: place is its number. */
     WICK_NODE_WRONG = 6,
-    /* A leaf's start, count or entries are wrong: place is its node; or, where the counts of all leaves do not make the
-     * pool, the number of nodes. */
+    /* A leaf's start, count or entries are wrong: place is its node. Or the counts of all leaves do not add up to the
+     * pool's length: place is the number of nodes. */
     WICK_LEAF_WRONG = 7,
     /* A leaf lacks a rule whose box meets the leaf's box, so some header would get a wrong list: place is the node of
      * the lowest such leaf, extra the lowest such rule. */

@@ -6,13 +6,12 @@ const VARIABLE: &str = "WICKORCHARD_ARCHIVE_FOLDER";
 
 fn main() {
     let package = std::env::var("CARGO_MANIFEST_DIR").expect("cargo names the package's folder");
-    let project = Path::new(&package).join("../..");
+    let project = Path::new(&package).join("../..").canonicalize().expect("the package stands in its project");
     let folder = std::env::var(VARIABLE).map_or_else(|_| project.join("target/native"), Into::into);
     let archive = folder.join("libwickorchard.a");
     println!("cargo::rerun-if-env-changed={VARIABLE}");
     println!("cargo::rerun-if-changed={}", archive.display());
     if !archive.is_file() {
-        let project = project.canonicalize().unwrap_or(project);
         println!("cargo::error=there is no {}: run {}/archive first", archive.display(), project.display());
         return;
     }

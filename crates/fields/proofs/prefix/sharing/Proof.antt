@@ -17,7 +17,9 @@ shr-result : tie.Need-shr-result
 shr-result c = search needs
 
 returns : tie.Need-returns
-returns c = rw (c .in-64-bits .ensures, c .before .places .ensures) (shifted-away addressBits _ mostPlaces (omega arith))
+returns c =
+    let away = shifted-away addressBits _ mostPlaces (omega arith) in
+    rw (c .in-64-bits .ensures, c .before .places .ensures) away
 
 pub sharing-spec : {M : Type 1} → statement M
 sharing-spec = tie.close (tie.spec places-requires in-64-bits-requires shr-result returns)

@@ -36,8 +36,8 @@
  * leaf, the header is compared with the rules that the entries name.
  *
  * UNCHECKED TREES. The two tree searches answer by the tree as it is. By a tree that is wrong for the rules they may
- * give a WRONG ANSWER WITHOUT A REFUSAL. Search only a tree that wick_tree_check has accepted, with the same rules,
- * nodes and pool, unchanged since. A tree that wick_tree_read has read is not checked by that.
+ * give a WRONG ANSWER WITHOUT A REFUSAL. Search only a tree that wick_tree_check has accepted or wick_build has built,
+ * with the same rules, nodes and pool, unchanged since. A tree that wick_tree_read has read is not checked by that.
  */
 #ifndef WICKORCHARD_H
 #define WICKORCHARD_H
@@ -167,6 +167,16 @@ void wick_tree_first(const uint32_t *rules, uint64_t rules_len, const uint32_t *
  * above a leaf, and b: the entries of the longest leaf. */
 void wick_tree_check(const uint32_t *rules, uint64_t rules_len, const uint32_t *nodes, uint64_t nodes_len,
                      const uint32_t *pool, uint64_t pool_len, wick_answer *answer);
+
+/* Compiles the list: builds its tree. One list gives one tree. Refuses with 1, 2, then 4 at the first node, from node 0
+ * on, that does not fit, be it that too little is lent or that the tree is over WICK_MOST_NODE_WORDS or
+ * WICK_MOST_POOL_WORDS. Place is the node words up to and with that node; or, where these fit, the pool words up to and
+ * with it, and extra is 1. So with just as much room a build may stop at a later node. Writes three words for each node
+ * to the front of `nodes` and the leaf entries to the front of `pool`; the rest of both is as found. More than
+ * WICK_MOST_NODE_WORDS and WICK_MOST_POOL_WORDS words are of no use. What it has built always passes wick_tree_check.
+ * It needs STACK bytes of stack. a: the number of nodes, and b: of pool words. */
+void wick_build(const uint32_t *rules, uint64_t rules_len, uint32_t *nodes, uint64_t nodes_len, uint32_t *pool,
+                uint64_t pool_len, wick_answer *answer);
 
 /* Writes the list as a rules file. Refuses with 1, 2, 4. Writes the file's bytes to the front of `text`; the rest of
  * `text` is as found. WICK_MOST_FILE_BYTES bytes are always enough. a: how many bytes it wrote. */

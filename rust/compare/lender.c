@@ -31,7 +31,7 @@ enum { SHARED = 0x01, PRIVATE = 0x02, FIXED = 0x10, NO_FILE = 0x20 }; // MAP_..,
 
 // The calls' numbers, as `abi.rs` has them.
 enum { RULE_CHECK = 1, LINE_ALL = 2, LINE_FIRST = 3, TREE_ALL = 4, TREE_FIRST = 5, TREE_CHECK = 6 };
-enum { RULES_WRITE = 7, RULES_READ = 8, TREE_WRITE = 9, TREE_READ = 10, SCAN_ALL = 11, SCAN_FIRST = 12 };
+enum { RULES_WRITE = 7, RULES_READ = 8, TREE_WRITE = 9, TREE_READ = 10, SCAN_ALL = 11, SCAN_FIRST = 12, BUILD = 13 };
 
 // The bytes on either side of the arena that a call may not touch: one that does ends the program.
 enum { MARGIN = 1 << 20 };
@@ -93,6 +93,9 @@ static u64 make_call(char *arena, const struct request *asked) {
     case SCAN_FIRST:
         wick_scan_first(WORDS(0), WORDS(1), answer);
         return SCAN_FIRST;
+    case BUILD:
+        wick_build(WORDS(0), WORDS(1), WORDS(2), answer);
+        return BUILD;
     default:
         return 0;
     }

@@ -3,6 +3,7 @@ use Rattle.claims.specs.Claims.{Claims}
 use Rattle.claims.proofs.Demand1.{code-claim, calls-claim}
 use Rattle.claims.proofs.Demand2.{matching-claim, by-tree-claim, rule-file-claim, tree-file-claim}
 use Rattle.claims.proofs.Demand3.{tree-check-claim}
+use Rattle.claims.proofs.Compiler.{compiler-claim}
 use Rattle.claims.proofs.Worked.{worked}
 use Rattle.claims.proofs.Beyond.{program-claim}
 
@@ -16,6 +17,7 @@ claims =
       rule-file = rule-file-claim;
       tree-file = tree-file-claim;
       tree-check = tree-check-claim;
+      compiler = compiler-claim;
       worked = worked;
       program = program-claim;
     }

@@ -21,6 +21,9 @@ use Rattle.tree_file.specs.TreeText.{Tree, tree, treeIn}
 use Rattle.tree_file.specs.Reading.{valuesIn, nodesIn, poolIn, readVerdict}
 use Rattle.tree_file.proofs.RoundTrips.{spelling-of-read}
 use Rattle.tree_file.proofs.ReadAnswers.{read-apart as tree-apart}
+use Rattle.builder.specs.BuiltTree.{builtTree}
+use Rattle.builder.proofs.Laying.{length-laid}
+use Rattle.builder.proofs.Unique.{built-apart}
 use Rattle.policy.proofs.Listing.{words-whole}
 use Rattle.policy.proofs.Unique as policy
 use Rattle.rules.proofs as in-rules
@@ -28,6 +31,7 @@ use Rattle.trees.proofs as in-trees
 use Rattle.tree_check.proofs as in-check
 use Rattle.rule_file.proofs as in-rule-file
 use Rattle.tree_file.proofs as in-tree-file
+use Rattle.builder.proofs as in-builder
 use Rattle.console.proofs as in-console
 use Rattle.policy.proofs as in-policy
 use Rattle.exports.proofs as exports
@@ -49,6 +53,7 @@ code-claim = (
   in-rule-file.read.rules_read.Met.met,
   in-tree-file.write.tree_write.Met.met,
   in-tree-file.read.tree_read.Met.met,
+  in-builder.build.build.Met.met,
   in-console.reply.reply.Met.met,
   in-console.feed.feed.Met.met,
   in-console.feed.last_reply.Met.met,
@@ -68,6 +73,7 @@ code-claim = (
   exports.rule_text.wick_rules_read.Met.met,
   exports.tree_text.wick_tree_write.Met.met,
   exports.tree_text.wick_tree_read.Met.met,
+  exports.compiler.wick_build.Met.met,
 )
 
 -- ---- the reader of the tree file
@@ -101,6 +107,10 @@ calls-claim =
             writes-only tree-apart (λ r a p. p .1 .0) (λ e. sizes e .0),
             writes-only tree-apart (λ r a p. p .1 .1) (λ e. sizes e .1),
           );
+      build = λ rs ns es. (
+        writes-only built-apart (λ r a p. p .1 .0) (λ e. length-laid (builtTree rs) 0 0),
+        writes-only built-apart (λ r a p. p .1 .1) (λ e. refl),
+      );
       reply = λ bytes w. writes-only written-apart (λ r a p. p) (λ e. refl);
       take-list = λ f w. writes-only policy.listed-apart (λ r a p. p) (λ e. refl);
       take-tree = λ f ns es. (

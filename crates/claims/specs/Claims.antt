@@ -5,6 +5,7 @@ use Rattle.tree_check.specs.Serves.{Serves}
 use Rattle.claims.specs.Demand1.{Code, Calls}
 use Rattle.claims.specs.Demand2.{Matching, ByTree, RuleFile, TreeFile}
 use Rattle.claims.specs.Demand3.{TreeCheck}
+use Rattle.claims.specs.Compiler.{Compiler}
 use Rattle.claims.specs.Worked.{AllHold, table}
 use Rattle.claims.specs.Beyond.{Program}
 
@@ -16,5 +17,6 @@ pub record Claims : Type 2 where
   pub rule-file : RuleFile
   pub tree-file : TreeFile
   pub tree-check : TreeCheck
+  pub compiler : Compiler
   pub worked : AllHold table
   pub program : Program

@@ -13,6 +13,7 @@ use Rattle.trees.specs as trees
 use Rattle.tree_check.specs as tree-check
 use Rattle.rule_file.specs as rule-file
 use Rattle.tree_file.specs as tree-file
+use Rattle.builder.specs as builder
 use Rattle.text.specs as text
 use Rattle.policy.specs as policy
 use Rattle.rules.proofs as in-rules
@@ -20,6 +21,7 @@ use Rattle.trees.proofs as in-trees
 use Rattle.tree_check.proofs as in-check
 use Rattle.rule_file.proofs as in-rule-file
 use Rattle.tree_file.proofs as in-tree-file
+use Rattle.builder.proofs as in-builder
 use Rattle.console.proofs as in-console
 use Rattle.policy.proofs as in-policy
 use Rattle.exports.proofs as exports
@@ -32,7 +34,7 @@ Code M =
     in-trees.search.tree_first.Statement.statement M × in-check.check.tree_check.Statement.statement M ×
     in-rule-file.write.rules_write.Statement.statement M × in-rule-file.read.rules_read.Statement.statement M ×
     in-tree-file.write.tree_write.Statement.statement M × in-tree-file.read.tree_read.Statement.statement M ×
-    in-console.reply.reply.Statement.statement M × in-console.feed.feed.Statement.statement M ×
+    in-builder.build.build.Statement.statement M × in-console.reply.reply.Statement.statement M × in-console.feed.feed.Statement.statement M ×
     in-console.feed.last_reply.Statement.statement M × in-policy.list.take_list.Statement.statement M ×
     in-policy.tree.take_tree.Statement.statement M × in-policy.serving.who_serves.Statement.statement M ×
     in-policy.line.verdict_line.Statement.statement M × exports.line.wick_rule_check.Statement.statement M ×
@@ -41,7 +43,7 @@ Code M =
     exports.tree.wick_tree_all.Statement.statement M × exports.tree.wick_tree_first.Statement.statement M ×
     exports.tree.wick_tree_check.Statement.statement M × exports.rule_text.wick_rules_write.Statement.statement M ×
     exports.rule_text.wick_rules_read.Statement.statement M × exports.tree_text.wick_tree_write.Statement.statement M ×
-    exports.tree_text.wick_tree_read.Statement.statement M
+    exports.tree_text.wick_tree_read.Statement.statement M × exports.compiler.wick_build.Statement.statement M
 
 pub record Calls : Type 0 where
   pub rule-check : (rs : List ℕ) → Fixes (rules.RuleCheck.RuleChecked rs)
@@ -62,6 +64,10 @@ pub record Calls : Type 0 where
       (s ns es : List ℕ) →
       WritesBoth ns es (tree-file.Reading.TreeRead s ns es) tree-file.Reading.paper
       (λ vs. value 1 vs * trees.Words.nodeWords) (value 2)
+  pub build :
+      (rs ns es : List ℕ) →
+      WritesBoth ns es (builder.Build.TreeBuilt rs ns es) builder.Build.paper
+      (λ vs. value 0 vs * trees.Words.nodeWords) (value 1)
   pub reply : (bytes w : List ℕ) → WritesOnly w (text.Said.Said bytes w) text.Said.paper (value 0)
   pub take-list :
       (f : Option (List ℕ)) (w : List ℕ) → WritesOnly w (policy.TakeList.ListTaken f w) policy.TakeList.paper (value 0)

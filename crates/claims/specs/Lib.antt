@@ -2,6 +2,7 @@
 pub mod Demand1
 pub mod Demand2
 pub mod Demand3
+pub mod Compiler
 pub mod Worked
 pub mod Beyond
 pub mod Claims

@@ -13,6 +13,7 @@ use Rattle.rule_file.specs.Writing as rules-write
 use Rattle.rule_file.specs.Reading as rules-read
 use Rattle.tree_file.specs.Writing as tree-write
 use Rattle.tree_file.specs.Reading as tree-read
+use Rattle.builder.specs.Build as build
 use Rattle.exports.specs.Answers.{plainly, countsLast, inOneWord, firstInWords, InWords}
 
 -- the lent words and the answer of a call
@@ -63,3 +64,7 @@ TreeWriteAnswered n nodes pool found after answer =
 abbrev pub TreeReadAnswered : Words → Words → Words → Words → Words → Words → Type 0
 TreeReadAnswered s nodes pool nodes′ pool′ answer =
     InWords plainly tree-read.paper (λ r. tree-read.TreeRead s nodes pool r nodes′ pool′) answer
+
+abbrev pub BuildAnswered : Words → Words → Words → Words → Words → Words → Type 0
+BuildAnswered rs nodes pool nodes′ pool′ answer =
+    InWords plainly build.paper (λ r. build.TreeBuilt rs nodes pool r nodes′ pool′) answer

@@ -5,7 +5,9 @@
 //   tree::wick_tree_all, tree::wick_tree_first, tree::wick_tree_check
 //   rule_text::wick_rules_write, rule_text::wick_rules_read
 //   tree_text::wick_tree_write, tree_text::wick_tree_read
+//   compiler::wick_build
 pub mod answer;
+pub mod compiler;
 pub mod line;
 pub mod rule_text;
 pub mod tree;

@@ -1,5 +1,5 @@
 -- Two tests joined, and a test taken by its two cases.
-use mathlib.Core.Bool.{Bool, true, false, not, _&&_, true≢false, false≢true}
+use mathlib.Core.Bool.{Bool, true, false, not, _&&_, _||_, true≢false, false≢true}
 use mathlib.Core.Path.{_≡_, refl, sym, ap, _∙_}
 use mathlib.Core.Logic.{_⊎_, inl, inr}
 use borrow.Author.Tests.{not-true, not-false}
@@ -12,6 +12,11 @@ both false b e = absurd (false≢true e)
 -- where each of two tests holds, both do
 pub join : {a b : Bool} → a ≡ true → b ≡ true → (a && b) ≡ true
 join {a} {b} p q = ap (λ (x : Bool). x && b) p ∙ q
+
+-- where not either of two tests holds, each fails
+pub neither : (a b : Bool) → (a || b) ≡ false → (a ≡ false) × (b ≡ false)
+neither true b e = absurd (true≢false e)
+neither false b e = (refl, e)
 
 -- a test holds or fails
 pub sure : (b : Bool) → (b ≡ true) ⊎ (b ≡ false)

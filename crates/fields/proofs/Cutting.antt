@@ -60,27 +60,33 @@ module _ (n : ℕ) (b : List (List ℕ)) (p : Pairs n b) (f v : ℕ) (k : f < n)
   unfolding rightOf
   pairs-right = pairs-stored b f 0 (v + 1) n k p
 
-  low-left : (g : ℕ) → lowOf (leftOf b f v) g ≡ lowOf b g
+  -- the left side begins where the box does, in each field
+  pub low-left : (g : ℕ) → lowOf (leftOf b f v) g ≡ lowOf b g
   unfolding leftOf
   low-left g = other-end b f 1 v there 0 (λ e. omega arith) g
 
-  high-left : highOf (leftOf b f v) f ≡ v
+  -- in the field of the cut the left side ends at the value
+  pub high-left : highOf (leftOf b f v) f ≡ v
   unfolding leftOf
   high-left = that-end b f 1 v there (omega (arith, p .pair f k))
 
-  high-left-other : (g : ℕ) → (g ≡ f → ⊥) → highOf (leftOf b f v) g ≡ highOf b g
+  -- in the other fields the left side ends where the box does
+  pub high-left-other : (g : ℕ) → (g ≡ f → ⊥) → highOf (leftOf b f v) g ≡ highOf b g
   unfolding leftOf
   high-left-other g d = ap (λ (r : List ℕ). getD r 1 0) (other-field b f 1 v g d)
 
-  high-right : (g : ℕ) → highOf (rightOf b f v) g ≡ highOf b g
+  -- the right side ends where the box does, in each field
+  pub high-right : (g : ℕ) → highOf (rightOf b f v) g ≡ highOf b g
   unfolding rightOf
   high-right g = other-end b f 0 (v + 1) there 1 (λ e. omega arith) g
 
-  low-right : lowOf (rightOf b f v) f ≡ v + 1
+  -- in the field of the cut the right side begins after the value
+  pub low-right : lowOf (rightOf b f v) f ≡ v + 1
   unfolding rightOf
   low-right = that-end b f 0 (v + 1) there (omega (arith, p .pair f k))
 
-  low-right-other : (g : ℕ) → (g ≡ f → ⊥) → lowOf (rightOf b f v) g ≡ lowOf b g
+  -- in the other fields the right side begins where the box does
+  pub low-right-other : (g : ℕ) → (g ≡ f → ⊥) → lowOf (rightOf b f v) g ≡ lowOf b g
   unfolding rightOf
   low-right-other g d = ap (λ (r : List ℕ). getD r 0 0) (other-field b f 0 (v + 1) g d)
 

@@ -1,15 +1,17 @@
--- One field of a rule: a good field matches exactly the values between its ends, and there are some.
-use Prim.Native.Nat.{ℕ, _≤_}
+-- One field of a rule: a good field matches exactly the values between its ends, there are some, and the ends are its
+-- bounds.
+use Prim.Native.Nat.{ℕ, _^_, _≤_, _<_}
 use mathlib.Core.Bool.{true}
-use mathlib.Core.Path.{_≡_}
+use mathlib.Core.Path.{_≡_, refl}
 use mathlib.Core.Logic.{_↔_}
 use lib.ListN.{getD}
 use Rattle.fields.specs.declared.field.Field.{Field}
 use Rattle.fields.specs.declared.field.Field.the-variants.{Prefix, Range}
 use Rattle.fields.specs.Words.{addressBits}
 use Rattle.fields.specs.Prefixes.{prefixEnds}
-use Rattle.fields.specs.Fields.{fieldGood, fieldMatches, fieldEnds}
+use Rattle.fields.specs.Fields.{fieldGood, fieldMatches, fieldEnds, fieldBounds}
 use Rattle.fields.proofs.Prefixes.{prefix-is-range, prefix-not-empty}
+use Rattle.fields.proofs.PrefixLast.{last-of-good}
 use Rattle.fields.proofs.Ranges.{holds-iff-between, range-not-empty}
 
 -- a good field matches exactly the values between its ends
@@ -25,3 +27,11 @@ pub field-not-empty : (field : Field) → fieldGood field ≡ true → getD (fie
 unfolding prefixEnds
 field-not-empty (Prefix address len) g = prefix-not-empty addressBits address len g
 field-not-empty (Range low high largest) g = range-not-empty low high largest g
+
+-- the bounds of a good field whose low end fits the bits of an address are its ends
+pub bounds-of-good :
+    (field : Field) → fieldGood field ≡ true → getD (fieldEnds field) 0 0 < 2 ^ addressBits →
+    fieldBounds field ≡ fieldEnds field
+unfolding prefixEnds
+bounds-of-good (Prefix address len) g h = rw (last-of-good addressBits address len g h)
+bounds-of-good (Range low high largest) g h = refl

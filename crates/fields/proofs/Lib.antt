@@ -1,5 +1,6 @@
 -- Laws of prefixes, ranges, fields of rules, headers, boxes and cuts.
 pub mod Prefixes
+pub mod PrefixLast
 pub mod Ranges
 pub mod Fields
 pub mod Headers
@@ -7,3 +8,4 @@ pub mod Boxes
 pub mod Root
 pub mod Cuts
 pub mod Cutting
+pub mod Parts

@@ -2,6 +2,7 @@
 --   fieldGood field          the prefix is good, or the range is and ends no later than it may
 --   fieldMatches field x     the first bits of x agree with the prefix, or x lies in the range; for any words
 --   fieldEnds field          the range that a good field stands for
+--   fieldBounds field        its ends as words: a prefix whose range would pass the largest address ends there
 --   fieldMeets field ends    that range meets the one between the two ends
 use Prim.Native.Nat.{ℕ}
 use mathlib.Core.Bool.{Bool}
@@ -10,7 +11,7 @@ use lib.ListN.{getD}
 use Rattle.fields.specs.declared.field.Field.{Field}
 use Rattle.fields.specs.declared.field.Field.the-variants.{Prefix, Range}
 use Rattle.fields.specs.Words.{addressBits}
-use Rattle.fields.specs.Prefixes.{prefixGood, prefixAgrees, prefixEnds}
+use Rattle.fields.specs.Prefixes.{prefixGood, prefixAgrees, prefixEnds, prefixLast}
 use Rattle.fields.specs.Ranges.{rangeGood, rangeHolds, rangesMeet}
 
 abbrev pub fieldGood : Field → Bool
@@ -24,6 +25,10 @@ fieldMatches (Range low high largest) x = rangeHolds low high x
 abbrev pub fieldEnds : Field → List ℕ
 fieldEnds (Prefix address len) = prefixEnds addressBits address len
 fieldEnds (Range low high largest) = low ∷ high ∷ []
+
+abbrev pub fieldBounds : Field → List ℕ
+fieldBounds (Prefix address len) = address ∷ prefixLast addressBits address len ∷ []
+fieldBounds (Range low high largest) = low ∷ high ∷ []
 
 abbrev pub fieldMeets : Field → List ℕ → Bool
 fieldMeets field ends =

@@ -1,12 +1,13 @@
 // One field of a rule: a prefix, or a range with the largest end that it may have.
 use crate::prefix::prefix_agrees;
 use crate::prefix::prefix_good;
+use crate::prefix::prefix_last;
 use crate::prefix::prefix_meets;
 use crate::range::range_good;
 use crate::range::range_holds;
 use crate::range::ranges_meet;
 ghost use mathlib.Core.Path.{_≡_};
-ghost use Rattle.fields.specs.Fields.{fieldGood, fieldMatches, fieldMeets};
+ghost use Rattle.fields.specs.Fields.{fieldGood, fieldMatches, fieldBounds, fieldMeets};
 
 pub enum Field {
     Prefix { address: u32, len: u32 },
@@ -34,6 +35,21 @@ pub fn field_matches(field: Field, word: u32) -> bool
             high,
             largest: _,
         } => range_holds(low, high, word),
+    }
+}
+
+// The low and the high end of the range that a good field stands for. Any other prefix ends where its range would, but
+// no later than at the largest address.
+pub fn field_bounds(field: Field) -> [u32; 2]
+    ensures { λ r. ⌜ r ≡ fieldBounds field ⌝ }
+{
+    match field {
+        Field::Prefix { address, len } => [address, prefix_last(address, len)],
+        Field::Range {
+            low,
+            high,
+            largest: _,
+        } => [low, high],
     }
 }
 

@@ -8,6 +8,7 @@
 //   range::ranges_meet         whether two ranges meet
 //   field::field_good          whether a field of a rule, a prefix or a range, is good
 //   field::field_matches       whether a word matches it
+//   field::field_bounds        the ends of its range
 //   field::field_meets         whether its range meets another
 //   bounds::root_box           the box of every legal header
 //   bounds::divides            whether a value divides a box in a field

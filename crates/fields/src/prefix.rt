@@ -2,7 +2,7 @@
 ghost use Prim.Native.Nat.{_/_, _^_, _≤_, min};
 ghost use mathlib.Core.Path.{_≡_};
 ghost use Rattle.fields.specs.Words.{addressBits};
-ghost use Rattle.fields.specs.Prefixes.{span, prefixGood, prefixAgrees, prefixMeets};
+ghost use Rattle.fields.specs.Prefixes.{span, prefixGood, prefixAgrees, prefixLast, prefixMeets};
 ghost use Rattle.fields.specs.PrefixSteps.{mostPlaces};
 
 // The number of an address's bits.
@@ -10,6 +10,9 @@ pub const ADDRESS_BITS: u32 = 32;
 
 // The number of words of `ADDRESS_BITS` bits.
 const ALL_WORDS: u64 = 4_294_967_296;
+
+// The last of them.
+const LAST_WORD: u32 = 4_294_967_295;
 
 // The most places by which a u64 can be shifted.
 const MOST_PLACES: u32 = 63;
@@ -58,6 +61,18 @@ pub fn prefix_meets(address: u32, len: u32, from: u32, to: u32) -> bool
         return false;
     }
     in_64_bits(from) <= in_64_bits(address) + span_of(len) - 1
+}
+
+// The last word of the range that begins at the address and has as many words as share its first `len` bits; the last
+// word of all, where the range would go on past it.
+pub(crate) fn prefix_last(address: u32, len: u32) -> u32
+    ensures { λ r. ⌜ r ≡ prefixLast addressBits address len ⌝ }
+{
+    let last = in_64_bits(address) + span_of(len) - 1;
+    if ALL_WORDS <= last {
+        return LAST_WORD;
+    }
+    last as u32
 }
 
 // How many words share their first `len` bits; one where the length is that of an address, or over it.

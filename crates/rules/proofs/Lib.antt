@@ -1,8 +1,9 @@
--- Laws of lists of rules: what is good, what a rule means, what entries lack, what the searches say and list, and that
--- promises are exact.
+-- Laws of lists of rules: what is good, what a rule means, the ends of its fields, what entries lack, what the searches
+-- say and list, and that promises are exact.
 pub mod Lists
 pub mod Forms
 pub mod Meaning
+pub mod Ends
 pub mod AnyWords
 pub mod Lacks
 pub mod Listing

@@ -2,6 +2,7 @@
 pub mod Words
 pub mod Good
 pub mod Matching
+pub mod Bounds
 pub mod Lacking
 pub mod RuleCheck
 pub mod LineAll

@@ -1,5 +1,5 @@
-// A list of rules: its words, good rules, matching, the line-by-line search, and what entries lack. The written list is
-// the policy.
+// A list of rules: its words, good rules, matching, the line-by-line search, the ends of fields, and what entries lack.
+// The written list is the policy.
 //   check::rule_check     whether the list is good: 1, 2; gives the number of rules
 //   line::line_all        every number that matches a header, rising, into lent words: 1, 2, 3, 4
 //   line::line_first      the lowest number that matches a header: 1, 2, 3
@@ -8,8 +8,10 @@
 //   check::list_verdict   what rule_check refuses, for the calls that take a list
 //   words::rule_there     whether a rule is wholly lent
 //   matching::rule_matches    whether a rule is there and matches a header
+//   bounds::ends_of       the two ends of a field of a rule
 //   lacking::lowest_lacking   the lowest rule whose box meets a box and that a list of entries lacks
 // Each takes any words. Rests on facts, lent, refusals and fields.
+pub mod bounds;
 pub mod check;
 pub mod lacking;
 pub mod line;

@@ -1,10 +1,13 @@
 //! Times the library's tree check and tree searches beside a plain Rust walk of the same tree, at the largest sizes;
-//! the scans of a list beside a plain Rust scan of it; and the writers and readers of both files.
+//! the compiler beside a plain Rust compiler of the same tree; the scans of a list beside a plain Rust scan of it; and
+//! the writers and readers of both files.
 //!
 //! The plain walk trusts the tree: it looks at no node that its header does not need, refuses nothing and counts
 //! nothing.
 
+mod builds;
 mod files;
+mod plain_build;
 mod scans;
 
 use std::hint::black_box;
@@ -183,6 +186,7 @@ fn main() {
     });
     assert_eq!(answer, [0, 0, 0, 10, 4, 0, 0, 0]);
     println!("the tree check           {check:?}");
+    builds::time(&mut draw);
     scans::time(&mut draw);
     files::time(&tree);
 }

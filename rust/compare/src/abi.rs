@@ -30,6 +30,7 @@ pub enum Call {
     TreeRead = 10,
     ScanAll = 11,
     ScanFirst = 12,
+    Build = 13,
 }
 
 impl Call {
@@ -48,6 +49,7 @@ impl Call {
             Call::TreeRead => "wick_tree_read",
             Call::ScanAll => "wick_scan_all",
             Call::ScanFirst => "wick_scan_first",
+            Call::Build => "wick_build",
         }
     }
 

@@ -160,6 +160,20 @@ impl Bench {
         self.tree_all(case, policy, header, policy.pool.len().min(MOST_RULES) + 1)
     }
 
+    /// The rooms are those of the nodes and of the pool.
+    pub fn build(&mut self, case: &str, rules: &[u32], rooms: [usize; 2]) -> Agreed {
+        self.arena.take_back();
+        let lent_rules = self.arena.lend("rules", rules);
+        let [mut nodes, mut pool] = rooms.map(unwritten_words);
+        let lent_nodes = self.arena.lend("nodes", &nodes);
+        let lent_pool = self.arena.lend("pool", &pool);
+        let answer = oracle::build(rules, &mut nodes, &mut pool);
+        self.arena.want(lent_nodes, &nodes);
+        self.arena.want(lent_pool, &pool);
+        let inputs = Inputs { rules: Some(rules), rooms: &rooms, ..Inputs::of(Call::Build, case) };
+        self.compare(inputs, &[lent_rules, lent_nodes, lent_pool], answer)
+    }
+
     /// Counts so many headers that a second judge has searched for, for the group's line.
     pub fn count_judged(&mut self, headers: u64) {
         self.judged += headers;

@@ -1,6 +1,8 @@
-//! Good trees: the worked policy's, and for drawn lists some that are built and some that are grown at random.
+//! Good trees: the worked policy's; for drawn lists some that are built and some that are grown at random; and the one
+//! that is compiled from a list.
 
 use oracle::boxes::{Side, Sides};
+use oracle::build::{compile, LARGEST_ROOM};
 use oracle::builder::{self, Limits};
 use oracle::nodes::{MOST_ENTRIES, MOST_NODES};
 use oracle::parts::{Part, Places};
@@ -71,6 +73,13 @@ pub fn built(list: &List, leaf: usize, cuts: u64) -> Planted {
     let within = |leaf| builder::build(&rules, Limits { leaf, cuts, nodes: MOST_NODES, entries: MOST_ENTRIES });
     let root = (0..10).find_map(|doubled| within(leaf << doubled)).expect("one leaf of 512 rules is within the limits");
     Planted::of(&list.rules, root)
+}
+
+/// The tree that is compiled from the good list; None where it is over the scope's limits.
+pub fn compiled(rules: &[Rule]) -> Option<Policy> {
+    let rules = rules.concat();
+    let words = compile(&rules, LARGEST_ROOM).ok()?;
+    Some(Policy { rules, nodes: words.nodes, pool: words.pool })
 }
 
 /// Grows a tree of at most this many cuts; of fewer where the pool would be over its limit.

@@ -11,18 +11,21 @@
 //! - [`tree_all`]: the numbers in a leaf that match a header, by a walk through a tree;
 //! - [`tree_first`]: the first number of them;
 //! - [`tree_check`]: is the tree well formed, and does each leaf list every rule that can match there;
+//! - [`build()`]: the one tree that is compiled from a list;
 //! - [`rules_write`] and [`rules_read`]: a list as a text file, and back;
 //! - [`tree_write`] and [`tree_read`]: a tree as a text file, and back.
 //!
 //! And [`program`] is the program: from its two files and its standard input, what it writes.
 //!
-//! Besides, [`builder`] makes trees that are right for a list, and [`corners`] judges small trees a second time, by
-//! searching for every header that could get a wrong list.
+//! Besides, [`builder`] makes trees of other shapes that are right for a list, for the searches and the check to be
+//! tried on, and [`corners`] judges small trees a second time, by searching for every header that could get a wrong
+//! list.
 
 #![forbid(unsafe_code)]
 
 pub mod answer;
 pub mod boxes;
+pub mod build;
 pub mod builder;
 pub mod corners;
 pub mod header;
@@ -41,6 +44,7 @@ pub mod tree_file;
 pub mod tree_search;
 
 pub use answer::{Answer, Refusal};
+pub use build::build;
 pub use line::{line_all, line_first};
 pub use program::program;
 pub use rule_file::{rules_read, rules_write};

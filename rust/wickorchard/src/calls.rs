@@ -1,12 +1,13 @@
 //! The library's calls on lent slices. Each takes any words and bytes; a refused one alters none of them.
 //!
 //! **The two tree searches answer by the tree as it is.** By a tree that is wrong for the rules they may give a wrong
-//! answer without a refusal. Search only a tree that [`tree_check`] has accepted, with the same rules, nodes and pool,
-//! unchanged since. [`Policy`](crate::Policy) sees to that.
+//! answer without a refusal. Search only a tree that [`tree_check`] has accepted or [`build`] has built, with the same
+//! rules, nodes and pool, unchanged since. [`Policy`](crate::Policy) sees to that.
 //!
 //! Words are numbers in this machine's own order, as `u32::from(Ipv4Addr)` gives them: `[a, b, c, d]` is
 //! `u32::from_be_bytes([a, b, c, d])`. [`Header::words`](crate::Header::words) makes the words of a header.
 
+use crate::limits::NODE_WORDS;
 use crate::raw::{self, Answer};
 use crate::refusal::Refusal;
 
@@ -92,7 +93,8 @@ pub fn scan_first(rules: &[u32], header: &[u32]) -> Result<Option<u32>, Refusal>
 
 /// Writes the numbers in the header's leaf that match it to the front of `out`, and gives them: 3, 6, 7, 4.
 ///
-/// **The tree is not checked.** Only one that [`tree_check`] has accepted for these rules gives what the list gives.
+/// **The tree is not checked.** Only one that [`tree_check`] has accepted for these rules, or [`build`] has built from
+/// them, gives what the list gives.
 pub fn tree_all<'a>(
     rules: &[u32],
     tree: Tree,
@@ -111,7 +113,8 @@ pub fn tree_all<'a>(
 
 /// The first number in the header's leaf that matches it: 3, 6, 7.
 ///
-/// **The tree is not checked.** Only one that [`tree_check`] has accepted for these rules gives what the list gives.
+/// **The tree is not checked.** Only one that [`tree_check`] has accepted for these rules, or [`build`] has built from
+/// them, gives what the list gives.
 pub fn tree_first(rules: &[u32], tree: Tree, header: &[u32]) -> Result<Counted<Option<u32>>, Refusal> {
     let Tree { nodes, pool } = tree;
     let [next, visited, compared] = answered(|answer| unsafe {
@@ -129,6 +132,35 @@ pub fn tree_check(rules: &[u32], tree: Tree) -> Result<Figures, Refusal> {
         raw::wick_tree_check(rules.as_ptr(), r, nodes.as_ptr(), n, pool.as_ptr(), p, answer)
     })?;
     Ok(Figures { cuts, longest_leaf })
+}
+
+/// Compiles the list: writes its tree to the front of `nodes` and of `pool`, and gives it: 1, 2, 4. One list gives one
+/// tree, and [`tree_check`] accepts it.
+///
+/// 4 says that too little is lent, or that the tree is over [`MOST_NODE_WORDS`] or [`MOST_POOL_WORDS`], which no room
+/// mends. It tells the words up to and with the first node that does not fit; with just as many, a later one may not.
+///
+/// ```
+/// use wickorchard::calls::{build, tree_first};
+///
+/// // Nine rules, for destination ports 0 to 8: ports up to 4 go left, to node 1.
+/// let rules: Vec<u32> = (0..9).flat_map(|port| [0, 0, 0, 0, 0, 65_535, port, port, 6, 6]).collect();
+/// let (mut nodes, mut pool) = ([0; 30], [0; 30]);
+/// let tree = build(&rules, &mut nodes, &mut pool)?;
+/// assert_eq!(tree.nodes, [3, 4, 2, 5, 0, 5, 5, 5, 4]);
+/// assert_eq!(tree.pool, [0, 1, 2, 3, 4, 5, 6, 7, 8]);
+/// assert_eq!(tree_first(&rules, tree, &[0, 0, 0, 7, 6])?.found, Some(7));
+/// # Ok::<(), wickorchard::Refusal>(())
+/// ```
+///
+/// [`MOST_NODE_WORDS`]: crate::limits::MOST_NODE_WORDS
+/// [`MOST_POOL_WORDS`]: crate::limits::MOST_POOL_WORDS
+pub fn build<'a>(rules: &[u32], nodes: &'a mut [u32], pool: &'a mut [u32]) -> Result<Tree<'a>, Refusal> {
+    let [node_count, pool_words, _] = answered(|answer| unsafe {
+        let (r, n, p) = (rules.len() as u64, nodes.len() as u64, pool.len() as u64);
+        raw::wick_build(rules.as_ptr(), r, nodes.as_mut_ptr(), n, pool.as_mut_ptr(), p, answer)
+    })?;
+    Ok(Tree { nodes: &nodes[..node_count as usize * NODE_WORDS], pool: &pool[..pool_words as usize] })
 }
 
 /// Writes the list as a rules file to the front of `text`, and gives the file's bytes: 1, 2, 4.

@@ -1,8 +1,9 @@
 //! Wickorchard for Rust programs: packets are classified by a written list of rules, or by a compiled tree that agrees
 //! with the list on every header.
 //!
-//! [`Policy`] reads both files and answers; a tree serves only where the check accepts it. [`calls`] has each call of
-//! the library by itself, on lent slices of words, whose numbers [`limits`] has. No caller needs unsafe code.
+//! [`Policy`] reads both files and answers; a tree serves only where the check accepts it, or where it is compiled
+//! from the list. [`calls`] has each call of the library by itself, on lent slices of words, whose numbers [`limits`]
+//! has. No caller needs unsafe code.
 //!
 //! ```
 //! use wickorchard::limits::MOST_RULES;

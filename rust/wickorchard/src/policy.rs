@@ -1,4 +1,5 @@
-//! A policy in memory: a list that was judged, and a tree that serves in its place once the check has accepted it.
+//! A policy in memory: a list that was judged, and a tree that serves in its place once the check has accepted it, or
+//! once it is compiled from the list.
 
 use crate::calls::{self, Figures, Tree};
 use crate::header::Header;
@@ -14,7 +15,7 @@ const JUDGED: &str = "the list is good, the tree is accepted, the header is lega
 #[derive(Clone, Debug)]
 pub struct Policy {
     rules: Vec<u32>,
-    /// The nodes and the pool of a tree that the check has accepted for these rules.
+    /// The nodes and the pool of a tree that the check has accepted for these rules, or that was compiled from them.
     tree: Option<(Vec<u32>, Vec<u32>)>,
 }
 
@@ -39,6 +40,17 @@ impl Policy {
         let figures = calls::tree_check(&self.rules, Tree { nodes: &nodes, pool: &pool })?;
         self.tree = Some((nodes, pool));
         Ok(figures)
+    }
+
+    /// Compiles the list, and has its tree serve from now on: 4 where the tree is over the limits, and then the list
+    /// serves. What is built needs no check.
+    pub fn compile(&mut self) -> Result<(), Refusal> {
+        self.tree = None;
+        let mut nodes = vec![0; MOST_NODE_WORDS];
+        let mut pool = vec![0; MOST_POOL_WORDS];
+        let Tree { nodes, pool } = calls::build(&self.rules, &mut nodes, &mut pool)?;
+        self.tree = Some((nodes.to_vec(), pool.to_vec()));
+        Ok(())
     }
 
     pub fn rule_count(&self) -> usize {

@@ -61,6 +61,15 @@ extern "C" {
         pool_len: u64,
         answer: *mut Answer,
     );
+    pub fn wick_build(
+        rules: *const u32,
+        rules_len: u64,
+        nodes: *mut u32,
+        nodes_len: u64,
+        pool: *mut u32,
+        pool_len: u64,
+        answer: *mut Answer,
+    );
     pub fn wick_rules_write(rules: *const u32, rules_len: u64, text: *mut u8, text_len: u64, answer: *mut Answer);
     pub fn wick_rules_read(text: *const u8, text_len: u64, rules: *mut u32, rules_len: u64, answer: *mut Answer);
     pub fn wick_tree_write(

@@ -116,6 +116,53 @@ fn the_tree_calls() {
     }
 }
 
+/// Rules for so many single ports, from 0 on, and one for everything.
+fn ports(count: u32) -> Vec<u32> {
+    let mut rules: Vec<u32> = (0..count).flat_map(|port| [0, 0, 0, 0, 0, 65_535, port, port, 6, 6]).collect();
+    rules.extend(EVERYTHING);
+    rules
+}
+
+#[test]
+fn the_compiler() {
+    // 512 nested ranges have a tree past the limits.
+    let nested = (0..512).flat_map(|end| [0, 0, 0, 0, end, 65_535 - end, 0, 65_535, 0, 255]).collect();
+    for rules in lists().into_iter().chain([ports(8), ports(9), ports(40), EVERYTHING.repeat(512), nested]) {
+        for [node_room, pool_room] in [[0, 0], [3, 2], [3, 600], [8, 20], [9, 10], [9, 20], [100, 20], [7_000, 5_000]] {
+            let [mut nodes, mut wanted_nodes] = [vec![7; node_room], vec![7; node_room]];
+            let [mut pool, mut wanted_pool] = [vec![7; pool_room], vec![7; pool_room]];
+            let answer = oracle::build(&rules, &mut wanted_nodes, &mut wanted_pool);
+            expect(calls::build(&rules, &mut nodes, &mut pool), answer, |tree| {
+                assert_eq!(calls::tree_check(&rules, tree).err(), None);
+                [tree.nodes.len() as u64 / 3, tree.pool.len() as u64, 0]
+            });
+            assert_eq!((nodes, pool), (wanted_nodes, wanted_pool));
+        }
+    }
+}
+
+#[test]
+fn a_policy_that_is_compiled_answers_as_its_list() {
+    let mut text = vec![0; 65_536];
+    // A leaf is met by four sources and four destinations at most, so the pool would be over its limit.
+    let source = |strip: u32| [strip << 24, 8, 0, 0, 0, 65_535, 0, 65_535, 0, 255];
+    let destination = |strip: u32| [0, 0, strip << 24, 8, 0, 65_535, 0, 65_535, 0, 255];
+    let grid = (0..256).flat_map(|strip| [source(strip), destination(strip)]).flatten().collect();
+    let over = Err(Refusal::PoolShort { needed: 4_104 });
+    for (rules, compiled) in [(rules(), Ok(())), (ports(40), Ok(())), (EVERYTHING.repeat(512), Ok(())), (grid, over)] {
+        let file = calls::rules_write(&rules, &mut text).expect("the list is good");
+        let list = Policy::read(file).expect("the list is good");
+        let mut policy = list.clone();
+        assert_eq!(policy.compile(), compiled);
+        for words in &HEADERS[..3] {
+            let header = Header::try_from(*words).expect("the header is legal");
+            let [mut found, mut listed] = [[7; MOST_RULES]; 2];
+            assert_eq!(policy.all(&header, &mut found), list.all(&header, &mut listed));
+            assert_eq!(policy.first(&header), list.first(&header));
+        }
+    }
+}
+
 #[test]
 fn the_writers() {
     for room in [0, 100, 200] {

@@ -1,5 +1,9 @@
 //! The groups of inputs, by purpose: correctness, limits and damage.
 
+mod build_cases;
+mod build_drawn;
+mod build_limits;
+mod build_rooms;
 mod correctness;
 mod damage;
 mod drawn_damage;
@@ -29,7 +33,7 @@ mod tree_words;
 use crate::bench::{Bench, Run};
 use crate::trials::Trials;
 
-/// Compares every group in turn: lists, then trees, then files.
+/// Compares every group in turn: lists, then trees, then the compiler, then files.
 pub fn run(bench: &mut Bench) -> Run {
     correctness::run(bench)?;
     limits::run(bench)?;
@@ -47,6 +51,10 @@ pub fn run(bench: &mut Bench) -> Run {
     tree_order::run(bench)?;
     tree_drawn::run(bench)?;
     tree_words::run(bench)?;
+    build_cases::run(bench)?;
+    build_drawn::run(bench)?;
+    build_limits::run(bench)?;
+    build_rooms::run(bench)?;
     file_correctness::run(bench)?;
     file_limits::run(bench)?;
     file_rooms::run(bench)?;

@@ -1,0 +1,69 @@
+-- The words of a tree: their equations, and how many there are.
+use Prim.Native.Nat.{ℕ, _+_, _*_, _<_}
+use native.Mathlib.Omega.{arith}
+use mathlib.Core.Path.{_≡_, refl}
+use mathlib.Core.List.{List, [], _∷_, _++_}
+use lib.ListN.{length, length-append}
+use Rattle.trees.specs.Words.{nodeWords, leafMark, nodeCount}
+use Rattle.builder.specs.Trees.{Tree, leaf, cut}
+use Rattle.builder.specs.Layout.{size, pooled, laid}
+
+-- a tree has nodes
+pub size-some : (t : Tree) → 0 < size t
+unfolding size
+size-some (leaf l) = omega arith
+size-some (cut f v x y) = omega arith
+
+-- a leaf is one node
+pub size-leaf : (l : List ℕ) → size (leaf l) ≡ 1
+unfolding size
+size-leaf l = refl
+
+-- a cut has one node more than its two parts
+pub size-cut : (f v : ℕ) (x y : Tree) → size (cut f v x y) ≡ 1 + size x + size y
+unfolding size
+size-cut f v x y = refl
+
+-- a leaf's entries are its own
+pub pooled-leaf : (l : List ℕ) → pooled (leaf l) ≡ l
+unfolding pooled
+pooled-leaf l = refl
+
+-- a cut's entries are those of its left part and then those of its right part
+pub pooled-cut : (f v : ℕ) (x y : Tree) → pooled (cut f v x y) ≡ pooled x ++ pooled y
+unfolding pooled
+pooled-cut f v x y = refl
+
+-- a cut has as many entries as its two parts
+pub length-pooled : (f v : ℕ) (x y : Tree) → length (pooled (cut f v x y)) ≡ length (pooled x) + length (pooled y)
+unfolding pooled
+length-pooled f v x y = length-append (pooled x) (pooled y)
+
+-- a leaf's words are the mark, where its entries start, and how many there are
+pub laid-leaf : (l : List ℕ) (i s : ℕ) → laid (leaf l) i s ≡ leafMark ∷ s ∷ length l ∷ []
+unfolding laid
+laid-leaf l i s = refl
+
+-- a cut's words are its field, its value, its right child, and then those of its left part and of its right part
+pub laid-cut :
+    (f v : ℕ) (x y : Tree) (i s : ℕ) →
+    laid (cut f v x y) i s ≡
+    f ∷ v ∷ (i + 1 + size x) ∷ (laid x (i + 1) s ++ laid y (i + 1 + size x) (s + length (pooled x)))
+unfolding laid
+laid-cut f v x y i s = refl
+
+-- each node has three words
+pub length-laid : (t : Tree) (i s : ℕ) → length (laid t i s) ≡ size t * nodeWords
+unfolding laid size
+length-laid (leaf l) i s = refl
+length-laid (cut f v x y) i s =
+    omega (
+      arith,
+      length-append (laid x (i + 1) s) (laid y (i + 1 + size x) (s + length (pooled x))),
+      length-laid x (i + 1) s,
+      length-laid y (i + 1 + size x) (s + length (pooled x)),
+    )
+
+-- the words of a tree are as many whole nodes as it has
+pub count-laid : (t : Tree) (i s : ℕ) → nodeCount (laid t i s) ≡ size t
+count-laid t i s = omega (arith, length-laid t i s)

@@ -1,0 +1,65 @@
+-- Growing from the root, where no node stands: all numbers may meet the root's box, and the tree is the one that is
+-- defined.
+use Prim.Native.Nat.{ℕ, _*_, _≤_, _<_}
+use native.Mathlib.Omega.{arith}
+use mathlib.Core.Bool.{true}
+use mathlib.Core.Path.{_≡_, refl, sym, ap, _∙_}
+use mathlib.Core.List.{List, []}
+use lib.ListN.{length, take}
+use Rattle.facts.specs.Lists.{upFrom, allUnder}
+use Rattle.facts.proofs.Counted.{take-up}
+use Rattle.facts.proofs.Members.{up-iff}
+use Rattle.facts.proofs.Under.{all-under-iff-has}
+use Rattle.fields.specs.Words.{fieldCount}
+use Rattle.fields.specs.Boxes.{rootBox}
+use Rattle.fields.proofs.Root.{root-pairs}
+use Rattle.rules.specs.Words.{mostRules}
+use Rattle.trees.specs.Spelt.{Spelt, countsBelow}
+use Rattle.tree_check.specs.Whole.{mostCuts}
+use Rattle.builder.specs.declared.grow.Grown.{Grown}
+use Rattle.builder.specs.declared.grow.Spot.{Spot}
+use Rattle.builder.specs.declared.grow.Room.{Room}
+use Rattle.builder.specs.BoxWords.{boxCount, boxesIn}
+use Rattle.builder.specs.BuiltTree.{treeOf}
+use Rattle.builder.specs.Growing.{treeAt, GrownPart, Growable}
+use Rattle.builder.specs.BuildSteps.{rootSpot, Rooted}
+use Rattle.builder.proofs.Narrower.{meeting-keep}
+use Rattle.builder.proofs.FromNothing.{grown-from-nothing}
+
+-- where no node stands, all that stand are spelt
+none-spelt : (n : ℕ) → Spelt n [] []
+unfolding countsBelow
+none-spelt n =
+    record {
+      first = λ i l. absurd (omega arith);
+      child = λ i l. absurd (omega arith);
+      leaf = λ i l. absurd (omega arith);
+      total = refl;
+    }
+
+module _ (ws : List ℕ) {room : Room} {b : List (List ℕ)} {at : Spot} (p : b ≡ rootBox) (q : at ≡ rootSpot) where
+  -- the root's box can be grown, by all numbers
+  pub root-growable :
+      {all : List ℕ} → Rooted ws room → all ≡ upFrom 0 mostRules → Growable ws (take (boxCount ws) all) [] [] b at room
+  root-growable r e =
+      rw (p, q, e, take-up (boxCount ws) mostRules 0 (r .few))
+      (record {
+        few = r .few;
+        known =
+            all-under-iff-has (boxCount ws) (upFrom 0 (boxCount ws)) .1 (λ y h. up-iff (boxCount ws) y .0 h);
+        reaches = sym (meeting-keep ws rootBox);
+        pairs = root-pairs;
+        spelt = none-spelt (boxCount ws);
+        cuts = omega arith;
+        node = omega arith;
+        entries = omega arith;
+        nodes = r .nodes;
+        pool = r .pool;
+      })
+
+  -- what is grown so is the tree of the boxes
+  pub root-grown :
+      {nodes pool nodes′ pool′ : List ℕ} {r : Grown} →
+      GrownPart (treeAt ws [] [] b at) at room nodes pool r nodes′ pool′ →
+      GrownPart (treeOf (boxesIn ws)) rootSpot room nodes pool r nodes′ pool′
+  root-grown w = rw (p, q, grown-from-nothing fieldCount (boxesIn ws) mostCuts [] rootBox 0) at w

@@ -1,0 +1,126 @@
+-- `builder::build::build_boxes` meets its contract: a refusal stores nothing, and a whole tree is stored in front of
+-- both outputs. Assumes nothing.
+use native.Mathlib.Omega.{arith}
+use mathlib.Core.Path.{refl, sym}
+use lib.Seq.{length-take-le}
+use Rattle.builder.proofs.Building.{room-rooted, root-refuses, root-fits, root-stored}
+use borrow.Author.Needs.{needs}
+use Rattle.builder.proofs.build.build_boxes.Statement.{statement}
+use Rattle.builder.proofs.build.build_boxes.Tie as tie
+
+room-of-requires : tie.Need-room-of-requires
+room-of-requires c κs = search needs
+
+slice-aggregate-grow-root : tie.Need-slice-aggregate-grow-root
+slice-aggregate-grow-root c = search needs
+
+slice-aggregate-grow-root-2 : tie.Need-slice-aggregate-grow-root-2
+slice-aggregate-grow-root-2 c = search needs
+
+grow-root-requires : tie.Need-grow-root-requires
+grow-root-requires c κs =
+    room-rooted _ _ (c .before .before .room-of .ensures) (c .before .before .before .before .before .before .pre)
+
+enum-known-why : tie.Need-enum-known-why
+enum-known-why c = search needs
+
+enum-known-next : tie.Need-enum-known-next
+enum-known-next c = search needs
+
+mul-end : tie.Need-mul-end
+mul-end c =
+    let n = c .before in
+    let g = n .before .before .before .before in
+    omega (arith, root-fits _ (g .before .before .before .before .before .before .before .args .nodes .now) (g .before .before .before .before .before .before .before .args .pool .now) (g .before .before .before .room-of .ensures) (g .grow-root .ensures) (n .next .given .1) .1)
+
+array-share-prefix-words : tie.Need-array-share-prefix-words
+array-share-prefix-words c =
+    let n = c .before .before in
+    let g = n .before .before .before .before in
+    omega (
+      arith,
+      root-fits _ (g .before .before .before .before .before .before .before .args .nodes .now) (g .before .before .before .before .before .before .before .args .pool .now) (g .before .before .before .room-of .ensures) (g .grow-root .ensures) (n .next .given .1) .1,
+      g .grow-root .kept,
+    )
+
+slice-aggregate-store-all : tie.Need-slice-aggregate-store-all
+slice-aggregate-store-all c =
+    let n = c .before .before .before in
+    let g = n .before .before .before .before in
+    sym
+    (length-take-le _ _
+    (omega (
+      arith,
+      root-fits _ (g .before .before .before .before .before .before .before .args .nodes .now) (g .before .before .before .before .before .before .before .args .pool .now) (g .before .before .before .room-of .ensures) (g .grow-root .ensures) (n .next .given .1) .1,
+      g .grow-root .kept,
+    )))
+
+store-all-requires : tie.Need-store-all-requires
+store-all-requires c κs = search needs
+
+array-share-prefix-list : tie.Need-array-share-prefix-list
+array-share-prefix-list c =
+    let n = c .before .before .before .before .before .before .before in
+    let g = n .before .before .before .before in
+    omega (
+      arith,
+      root-fits _ (g .before .before .before .before .before .before .before .args .nodes .now) (g .before .before .before .before .before .before .before .args .pool .now) (g .before .before .before .room-of .ensures) (g .grow-root .ensures) (n .next .given .1) .3,
+      g .grow-root .kept,
+    )
+
+slice-aggregate-store-all-2 : tie.Need-slice-aggregate-store-all-2
+slice-aggregate-store-all-2 c =
+    let n = c .before .before .before .before .before .before .before .before in
+    let g = n .before .before .before .before in
+    sym
+    (length-take-le _ _
+    (omega (
+      arith,
+      root-fits _ (g .before .before .before .before .before .before .before .args .nodes .now) (g .before .before .before .before .before .before .before .args .pool .now) (g .before .before .before .room-of .ensures) (g .grow-root .ensures) (n .next .given .1) .3,
+      g .grow-root .kept,
+    )))
+
+store-all-requires-2 : tie.Need-store-all-requires-2
+store-all-requires-2 c κs = search needs
+
+returns : tie.Need-returns
+returns c =
+    let g = c .before .before .before .before .before in
+    root-refuses _ (g .before .before .before .before .before .before .before .args .nodes .now) (g .before .before .before .before .before .before .before .args .pool .now) (g .before .before .before .room-of .ensures) (g .grow-root .ensures) (c .before .why .given .1) refl refl
+
+same-length : tie.Need-same-length
+same-length c = search needs
+
+same-length-2 : tie.Need-same-length-2
+same-length-2 c = search needs
+
+returns-2 : tie.Need-returns-2
+returns-2 c =
+    let last = c .before .before in
+    let first = last .before .before .before .before .before in
+    let n = first .before .before .before .before in
+    let g = n .before .before .before .before in
+    root-stored _ (g .before .before .before .before .before .before .before .args .nodes .now) (g .before .before .before .before .before .before .before .args .pool .now) (g .before .before .before .room-of .ensures) (g .grow-root .ensures) (n .next .given .1) (omega arith) (omega arith)
+    (first .store-all .ensures) (last .store-all2 .ensures)
+
+pub build-boxes-spec : {M : Type 1} → statement M
+build-boxes-spec =
+    tie.close
+    (tie.spec
+    room-of-requires
+    slice-aggregate-grow-root
+    slice-aggregate-grow-root-2
+    grow-root-requires
+    enum-known-why
+    enum-known-next
+    mul-end
+    array-share-prefix-words
+    slice-aggregate-store-all
+    store-all-requires
+    array-share-prefix-list
+    slice-aggregate-store-all-2
+    store-all-requires-2
+    returns
+    same-length
+    same-length-2
+    returns-2)

@@ -1,0 +1,151 @@
+-- `builder::grow::look_at` meets its contract: the node's words are looked at first; then the numbers that meet the box
+-- are kept, and the choice says which case it is. Assumes nothing.
+use native.Mathlib.Omega.{arith}
+use mathlib.Core.Path.{refl, sym, ap, _∙_}
+use lib.Seq.{length-take-le}
+use lib.ListN.{length}
+use borrow.Author.Needs.{needs}
+use Rattle.builder.specs.Trees.{leaf}
+use Rattle.builder.specs.Growing.{Looked, short, isLeaf, isCut}
+use Rattle.builder.proofs.PartAnswers.{tree-leaf, tree-stands}
+use Rattle.builder.proofs.Looking.{met-few, met-front, met-known, stands-front, stands-within}
+use Rattle.builder.proofs.grow.look_at.Statement.{statement}
+use Rattle.builder.proofs.grow.look_at.Tie as tie
+use Rattle.builder.proofs.grow.look_at.Reads as reads
+use Rattle.builder.proofs.grow.look_at.Lts as lts
+
+add-words : tie.Need-add-words
+add-words c = search needs
+
+mul-words : tie.Need-mul-words
+mul-words c = search needs
+
+returns : tie.Need-returns
+returns c = short (c .if1 .taken) refl
+
+keep-meeting-requires : tie.Need-keep-meeting-requires
+keep-meeting-requires c κs = search needs
+
+slice-reshare-prefix-choice-of : tie.Need-slice-reshare-prefix-choice-of
+slice-reshare-prefix-choice-of c =
+    let k = c .before .before in
+    let g = k .before .before .before .before .before .before .before .before .before in
+    omega (arith, met-few (g .pre .0) (k .keep-meeting .ensures), g .pre .1, k .keep-meeting .kept)
+
+slice-aggregate-choice-of : tie.Need-slice-aggregate-choice-of
+slice-aggregate-choice-of c =
+    let k = c .before .before .before in
+    let g = k .before .before .before .before .before .before .before .before .before in
+    sym (length-take-le _ _ (omega (arith, met-few (g .pre .0) (k .keep-meeting .ensures), g .pre .1, k .keep-meeting .kept)))
+
+choice-of-requires : tie.Need-choice-of-requires
+choice-of-requires c κs =
+    let k = c .before .before .before in
+    let g = k .before .before .before .before .before .before .before .before .before in
+    met-known (g .pre .0) (k .keep-meeting .ensures) (g .pre .1)
+
+enum-told : tie.Need-enum-told
+enum-told c = search needs
+
+enum-known-start : tie.Need-enum-known-start
+enum-known-start c = search needs
+
+add-end : tie.Need-add-end
+add-end c =
+    let o = c .before .before .before in
+    let g = o .before .before .before .before .before .before .before .before .before .before .before .before .before in
+    omega (arith, stands-within _ _ _ _ _ _ (g .pre .0 .spelt) (sym (o .choice-of .ensures) ∙ c .before .start .given .1) .0, g .good)
+
+mul-store-all : tie.Need-mul-store-all
+mul-store-all c =
+    let o = c .before .before .before .before in
+    let g = o .before .before .before .before .before .before .before .before .before .before .before .before .before in
+    omega (arith, stands-within _ _ _ _ _ _ (g .pre .0 .spelt) (sym (o .choice-of .ensures) ∙ c .before .before .start .given .1) .0, g .good)
+
+sub-store-all : tie.Need-sub-store-all
+sub-store-all c = search needs
+
+part-store-all-start : tie.Need-part-store-all-start
+part-store-all-start c = search needs
+
+part-store-all-end : tie.Need-part-store-all-end
+part-store-all-end c =
+    let o = c .before .before .before .before in
+    let g = o .before .before .before .before .before .before .before .before .before .before .before .before .before in
+    stands-within _ _ _ _ _ _ (g .pre .0 .spelt) (sym (o .choice-of .ensures) ∙ c .before .before .start .given .1) .0
+
+store-all-requires : tie.Need-store-all-requires
+store-all-requires c κs = search needs
+
+enum-known-field : tie.Need-enum-known-field
+enum-known-field c = search needs
+
+same-length : tie.Need-same-length
+same-length c = search needs
+
+returns-2 : tie.Need-returns-2
+returns-2 c =
+    let o = c .before .before in
+    let k = o .before .before .before .before in
+    let test = k .before .before in
+    let g = test .before .before .before .before .before .before .before in
+    isLeaf (test .if1 .left) (met-few (g .pre .0) (k .keep-meeting .ensures))
+    (tree-leaf _ _ _ _ _ _ _ (sym (o .choice-of .ensures) ∙ c .enum-told .given .1) ∙
+    ap leaf (sym (met-front (g .pre .0) (k .keep-meeting .ensures) (g .pre .1))))
+
+same-length-2 : tie.Need-same-length-2
+same-length-2 c = search needs
+
+returns-3 : tie.Need-returns-3
+returns-3 c =
+    let all = c .before .before in
+    let known = all .before .before .before .before in
+    let o = known .before .before in
+    let k = o .before .before .before .before in
+    let test = k .before .before in
+    let g = test .before .before .before .before .before .before .before in
+    let chosen = sym (o .choice-of .ensures) ∙ known .start .given .1 in
+    let w = stands-within _ _ _ _ _ _ (g .pre .0 .spelt) chosen in
+    isLeaf {count = known .start .given .0 .1 .0} (test .if1 .left) (omega (arith, w .1, g .pre .0 .few))
+    (tree-stands _ _ _ _ _ _ _ chosen ∙
+    ap leaf (sym (stands-front _ _ _ _ (w .0) (omega (arith, w .1, g .pre .0 .few, g .pre .1, k .keep-meeting .kept)) (all .store-all .ensures))))
+
+same-length-3 : tie.Need-same-length-3
+same-length-3 c = search needs
+
+returns-4 : tie.Need-returns-4
+returns-4 c =
+    let o = c .before .before .before in
+    let k = o .before .before .before .before in
+    let test = k .before .before in
+    let g = test .before .before .before .before .before .before .before in
+    isCut (test .if1 .left) (met-few (g .pre .0) (k .keep-meeting .ensures))
+    (sym (o .choice-of .ensures) ∙ c .before .field .given .1)
+    (met-front (g .pre .0) (k .keep-meeting .ensures) (g .pre .1))
+
+pub look-at-spec : {M : Type 1} → statement M
+look-at-spec =
+    tie.close
+    (tie.spec
+    add-words
+    mul-words
+    returns
+    keep-meeting-requires
+    slice-reshare-prefix-choice-of
+    slice-aggregate-choice-of
+    choice-of-requires
+    enum-told
+    enum-known-start
+    add-end
+    mul-store-all
+    sub-store-all
+    part-store-all-start
+    part-store-all-end
+    store-all-requires
+    enum-known-field
+    same-length
+    returns-2
+    same-length-2
+    returns-3
+    same-length-3
+    returns-4)

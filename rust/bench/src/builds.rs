@@ -1,0 +1,119 @@
+//! Times the compiler beside a plain Rust compiler of the same tree, on lists of 64 and of 512 rules whose trees are
+//! within the limits; and says what share of drawn lists are.
+
+use std::hint::black_box;
+
+use wickorchard::calls::build;
+use wickorchard::limits::{MOST_NODE_WORDS, MOST_POOL_WORDS, NODE_WORDS, RULE_WORDS};
+
+use crate::plain_build::plain_build;
+use crate::timed;
+
+const SIZES: [u32; 2] = [64, 512];
+const CALLS: usize = 20;
+/// The lists that are drawn of a kind and a size for its share.
+const DRAWN: usize = 200;
+
+type Rule = [u32; RULE_WORDS];
+
+/// How the rules of a list are drawn.
+struct Kind {
+    name: &'static str,
+    rules: fn(u32, &mut dyn FnMut() -> u32) -> Vec<Rule>,
+}
+
+const KINDS: [Kind; 4] = [
+    Kind { name: "a strip of the sources for each rule", rules: strips },
+    Kind { name: "services: single destinations and ports, from anywhere", rules: services },
+    Kind { name: "a zone for each rule: two prefixes, ports and protocol", rules: zones },
+    Kind { name: "a firewall: some sources, ports and destinations left open", rules: firewall },
+];
+
+const EVERYTHING: Rule = [0, 0, 0, 0, 0, 65_535, 0, 65_535, 0, 255];
+
+fn strips(size: u32, _: &mut dyn FnMut() -> u32) -> Vec<Rule> {
+    let bits = size.ilog2();
+    (0..size).map(|strip| [strip << (32 - bits), bits, 0, 0, 0, 65_535, 0, 65_535, 0, 255]).collect()
+}
+
+/// One of some ports that are often named.
+fn port(draw: &mut dyn FnMut() -> u32) -> u32 {
+    [22, 25, 53, 80, 110, 123, 143, 389, 443, 636, 993, 3_306, 5_432, 8_080, 8_443][draw() as usize % 15]
+}
+
+/// Hosts of 10.0.0.0/16, each with one port; the last rule takes the rest.
+fn services(size: u32, draw: &mut dyn FnMut() -> u32) -> Vec<Rule> {
+    let mut rules: Vec<Rule> = (1..size)
+        .map(|_| {
+            let (host, port, protocol) = (0x0A00_0000 + draw() % 65_536, port(draw), [6, 17][draw() as usize % 2]);
+            [0, 0, host, 32, 0, 65_535, port, port, protocol, protocol]
+        })
+        .collect();
+    rules.push(EVERYTHING);
+    rules
+}
+
+/// Networks that talk to networks; the last rule takes the rest.
+fn zones(size: u32, draw: &mut dyn FnMut() -> u32) -> Vec<Rule> {
+    let network = |draw: &mut dyn FnMut() -> u32| {
+        let length = 16 + draw() % 17;
+        [draw() & !((u64::from(u32::MAX) >> length) as u32), length]
+    };
+    let mut rules: Vec<Rule> = (1..size)
+        .map(|_| {
+            let ([source, source_length], [to, to_length]) = (network(draw), network(draw));
+            let (port, protocol) = (port(draw), [6, 17][draw() as usize % 2]);
+            [source, source_length, to, to_length, 0, 65_535, port, port, protocol, protocol]
+        })
+        .collect();
+    rules.push(EVERYTHING);
+    rules
+}
+
+/// As zones, but a source is left open in one of four rules, a destination in one of eight, and the ports in one of
+/// eight.
+fn firewall(size: u32, draw: &mut dyn FnMut() -> u32) -> Vec<Rule> {
+    let mut rules = zones(size, draw);
+    for rule in &mut rules {
+        if draw().is_multiple_of(4) {
+            rule[..2].copy_from_slice(&EVERYTHING[..2]);
+        }
+        if draw().is_multiple_of(8) {
+            rule[2..4].copy_from_slice(&EVERYTHING[2..4]);
+        }
+        if draw().is_multiple_of(8) {
+            rule[6..8].copy_from_slice(&[1_024, 65_535]);
+        }
+    }
+    rules
+}
+
+/// Compares the words of both compilers, and then times them on the first list of each kind that fits.
+pub fn time(draw: &mut impl FnMut() -> u32) {
+    let [mut nodes, mut pool] = [vec![0; MOST_NODE_WORDS], vec![0; MOST_POOL_WORDS]];
+    for size in SIZES {
+        for Kind { name, rules } in KINDS {
+            let drawn: Vec<Vec<u32>> = (0..DRAWN).map(|_| rules(size, draw).concat()).collect();
+            let mut fits = Vec::new();
+            for list in drawn {
+                let plain = plain_build(&list);
+                let ours = build(&list, &mut nodes, &mut pool).ok();
+                assert_eq!(ours.map(|tree| (tree.nodes.to_vec(), tree.pool.to_vec())), plain);
+                fits.extend(plain.map(|words| (list, words)));
+            }
+            println!("{size} rules: {name}: {} of {DRAWN} lists fit", fits.len());
+            let Some((list, (node_words, pool_words))) = fits.first() else { continue };
+            let plain = timed(CALLS, || (0..CALLS).for_each(|_| drop(black_box(plain_build(black_box(list))))));
+            let ours = timed(CALLS, || {
+                (0..CALLS).for_each(|_| {
+                    let _ = black_box(build(black_box(list), &mut nodes, &mut pool));
+                })
+            });
+            let ratio = ours.as_secs_f64() / plain.as_secs_f64();
+            let (node_count, entries) = (node_words.len() / NODE_WORDS, pool_words.len());
+            println!(
+                "  {node_count} nodes, {entries} entries: plain {plain:?}, the library's {ours:?}, ratio {ratio:.2}"
+            );
+        }
+    }
+}

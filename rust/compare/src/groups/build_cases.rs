@@ -1,0 +1,182 @@
+//! Correctness of the compiler: chosen lists, with the root's cut or the leaves that each of them gets.
+
+use oracle::nodes::{MOST_ENTRIES, MOST_NODES};
+
+use crate::bench::{Bench, Run};
+use crate::draws::Draws;
+use crate::headers::LARGEST;
+use crate::lists::{self, Rule, EVERYTHING};
+use crate::shared_ends::{put, with};
+use crate::trees::{self, Policy};
+
+const PURPOSE: &str = "correctness";
+
+/// A room for every tree within the limits, and some more.
+pub const AMPLE: [usize; 2] = [3 * MOST_NODES + 5, MOST_ENTRIES + 4];
+
+/// The fewest rules that are parted.
+const PARTED: usize = 9;
+
+pub fn run(bench: &mut Bench) -> Run {
+    bench.group(PURPOSE, "build: every set of fields that tie, with 1 to 9 values each", ties)?;
+    bench.group(PURPOSE, "build: 1 to 30 values of a field, of which the middle one is taken", middles)?;
+    bench.group(PURPOSE, "build: 0 to 40 rules apart, so that 8 and 9 rules meet a box", apart)?;
+    bench.group(PURPOSE, "build: boxes that more than 8 rules cover, without cut values", covered)?;
+    bench.group(PURPOSE, "build: ranges and prefixes at the ends of their fields", outer_ends)
+}
+
+/// Builds with ample room. The tree must fit, and the library's check must accept it.
+pub fn build_well(bench: &mut Bench, case: &str, rules: &[Rule]) -> Result<Policy, String> {
+    let answer = bench.build(case, &rules.concat(), AMPLE)?;
+    let policy = trees::compiled(rules).unwrap_or_else(|| panic!("the tree fits: {case}"));
+    let sizes = (0, policy.node_count() as u64, policy.pool.len() as u64);
+    assert_eq!((answer.number, answer.a, answer.b), sizes, "the oracle: {case}");
+    let answer = bench.tree_check(case, &policy)?;
+    assert_eq!(answer.number, 0, "the oracle: {case}");
+    Ok(policy)
+}
+
+/// Words of this field whose range begins at 0, so that it gives one cut value. They rise with the number.
+fn from_zero(field: usize, number: u32) -> [u32; 2] {
+    match field {
+        0 | 1 => [0, 31 - number],
+        _ => [0, end_from_zero(field, number)],
+    }
+}
+
+/// The high end of that range.
+fn end_from_zero(field: usize, number: u32) -> u32 {
+    match field {
+        0 | 1 => 2_u32.pow(number + 1) - 1,
+        _ => 3 * number + 1,
+    }
+}
+
+/// The fields of the set have so many cut values, and the others have one less. The lowest of the set is cut.
+fn ties(bench: &mut Bench) -> Run {
+    for set in 1..32_u32 {
+        for count in 1..=PARTED {
+            let mut rules = [EVERYTHING; PARTED];
+            for field in 0..5 {
+                let has_most = set >> field & 1 == 1;
+                for number in 0..if has_most { count } else { count - 1 } {
+                    // The rules that give a field's values stand in another order for each field.
+                    let rule = &mut rules[(2 * number + field) % PARTED];
+                    *rule = put(*rule, field, from_zero(field, number as u32));
+                }
+            }
+            let case = format!("fields of the set {set} have {count} values");
+            let Policy { nodes, .. } = build_well(bench, &case, &rules)?;
+            let field = set.trailing_zeros();
+            let value = end_from_zero(field as usize, count as u32 / 2);
+            assert_eq!(nodes[..2], [field, value], "the oracle: {case}");
+        }
+    }
+    Ok(())
+}
+
+/// M values, odd and even: the root is cut at the one of place M / 2. Repeated rules change nothing.
+fn middles(bench: &mut Bench) -> Run {
+    for field in 0..5 {
+        for count in 1..=30 {
+            for copies in [1, 2] {
+                let mut rules: Vec<Rule> = (0..count).map(|number| with(field, from_zero(field, number))).collect();
+                rules = rules.repeat(copies);
+                rules.resize(rules.len().max(PARTED), EVERYTHING);
+                let first = count as usize % rules.len();
+                rules.rotate_left(first);
+                let case = format!("{count} values of field {field}, each {copies} times");
+                let Policy { nodes, .. } = build_well(bench, &case, &rules)?;
+                let value = end_from_zero(field, count / 2);
+                assert_eq!(nodes[..2], [field as u32, value], "the oracle: {case}");
+            }
+        }
+    }
+    Ok(())
+}
+
+/// Single values of one field, two apart. Eight of them are a leaf, nine are parted; of 17, nine are left of the cut.
+fn apart(bench: &mut Bench) -> Run {
+    for field in 0..5 {
+        for count in 0..=40 {
+            let single = |number: u32| match field {
+                0 | 1 => [2 * number + 1, 32],
+                _ => [2 * number + 1; 2],
+            };
+            let rules: Vec<Rule> = (0..count).map(|number| with(field, single(number))).collect();
+            let case = format!("{count} single values of field {field}");
+            let Policy { nodes, pool, .. } = build_well(bench, &case, &rules)?;
+            assert_eq!(nodes[0] == 5, count < PARTED as u32, "the oracle: {case}");
+            if count == 17 {
+                let leaves: Vec<u32> = nodes.chunks(3).filter(|node| node[0] == 5).map(|node| node[2]).collect();
+                assert_eq!((leaves, pool.len()), (vec![4, 5, 8], 17), "the oracle: {case}");
+            }
+            // With rules over all of them, each box is met by as many more.
+            for more in [1, 7, 8, 9] {
+                let all = [&rules[..], &vec![EVERYTHING; more]].concat();
+                build_well(bench, &format!("{case}, and everything {more} times"), &all)?;
+            }
+        }
+    }
+    Ok(())
+}
+
+/// The same box for all rules, with ends in one field or in all of them: a leaf lists it whole, however long it is.
+fn covered(bench: &mut Bench) -> Run {
+    let inside = [0x0A00_0000, 8, 0xC0A8_0000, 16, 80, 90, 1_024, 65_535, 6, 6];
+    for count in [1, 8, 9, 10, 20, 100, 511, 512] {
+        let case = format!("everything, {count} times");
+        let Policy { nodes, .. } = build_well(bench, &case, &vec![EVERYTHING; count])?;
+        assert_eq!(nodes, [5, 0, count as u32], "the oracle: {case}");
+        let mut boxes: Vec<Rule> =
+            (0..5).map(|field| with(field, [inside[2 * field], inside[2 * field + 1]])).collect();
+        boxes.push(inside);
+        for rule in boxes {
+            let case = format!("{rule:?}, {count} times");
+            let Policy { nodes, .. } = build_well(bench, &case, &vec![rule; count])?;
+            let longest = nodes.chunks(3).filter(|node| node[0] == 5).map(|node| node[2]).max();
+            assert_eq!(longest, Some(count as u32), "the oracle: {case}");
+        }
+    }
+    // Rules inside each other in all fields: the innermost box is covered by all of them.
+    for count in [9, 10, 11] {
+        let rules: Vec<Rule> = (0..count).map(nested).collect();
+        build_well(bench, &format!("{count} rules, each inside the one before"), &rules)?;
+    }
+    Ok(())
+}
+
+/// A rule inside the one before it, with other ends in every field.
+fn nested(number: u32) -> Rule {
+    let inner = number + 1;
+    let address = lists::prefix(0xAAAA_AAAA, 2 * inner);
+    (2..5).fold(put(with(0, address), 1, address), |rule, field| put(rule, field, [inner, LARGEST[field] - inner]))
+}
+
+/// Nine copies of a rule have two cut values, or one at an end of the field, or none.
+fn outer_ends(bench: &mut Bench) -> Run {
+    let mut draws = Draws::seeded(1_300_000);
+    let expect = |bench: &mut Bench, field: usize, pair: [u32; 2], low: u32, high: u32| -> Run {
+        let case = format!("nine times {pair:?} in field {field}");
+        let policy = build_well(bench, &case, &[with(field, pair); PARTED])?;
+        let values = usize::from(low > 0) + usize::from(high < LARGEST[field]);
+        assert_eq!(policy.node_count(), 2 * values + 1, "the oracle: {case}");
+        Ok(())
+    };
+    for (field, top) in LARGEST.into_iter().enumerate().skip(2) {
+        for (low, high) in [(0, 0), (0, top), (0, top - 1), (1, top), (1, 1), (1, top - 1), (top, top), (top - 1, top)]
+        {
+            expect(bench, field, [low, high], low, high)?;
+        }
+    }
+    for field in 0..2 {
+        for length in 0..=32 {
+            for address in [0, u32::MAX, 0xAAAA_AAAA, draws.word()] {
+                let [low, length] = lists::prefix(address, length);
+                let high = u64::from(low) + 2_u64.pow(32 - length) - 1;
+                expect(bench, field, [low, length], low, high as u32)?;
+            }
+        }
+    }
+    Ok(())
+}

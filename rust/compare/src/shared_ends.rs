@@ -1,0 +1,82 @@
+//! Good lists for the compiler: their rules share few ends, so that fields tie, values repeat, and many rules meet a
+//! box.
+
+use crate::draws::Draws;
+use crate::headers::LARGEST;
+use crate::lists::{self, Rule, EVERYTHING};
+
+/// Everything, but for these two words of this field.
+pub fn with(field: usize, pair: [u32; 2]) -> Rule {
+    put(EVERYTHING, field, pair)
+}
+
+/// The rule with these two words in this field.
+pub fn put(mut rule: Rule, field: usize, pair: [u32; 2]) -> Rule {
+    rule[2 * field..2 * field + 2].copy_from_slice(&pair);
+    rule
+}
+
+/// How the rules of a list give a field.
+struct Field {
+    /// The values that ends and addresses are taken from.
+    values: Vec<u32>,
+    /// How many of four rules take the whole field.
+    whole: usize,
+}
+
+/// Draws a list of this many rules. Once in six a rule repeats an earlier one, now and then with another field.
+pub fn list(draws: &mut Draws, size: usize) -> Vec<Rule> {
+    let fields: [Field; 5] = std::array::from_fn(|field| {
+        let values = values_of(draws, field);
+        Field { values, whole: draws.pick(&[0, 2, 3, 4, 4]) }
+    });
+    let mut rules: Vec<Rule> = Vec::new();
+    for _ in 0..size {
+        let rule = if !rules.is_empty() && draws.once_in(6) {
+            let field = draws.below(5);
+            let earlier = draws.pick(&rules);
+            let changed = put(earlier, field, pair_of(draws, field, &fields[field].values));
+            draws.pick(&[earlier, changed])
+        } else {
+            fields.iter().enumerate().fold(EVERYTHING, |rule, (number, field)| match draws.below(4) {
+                chosen if chosen < field.whole => rule,
+                _ => put(rule, number, pair_of(draws, number, &field.values)),
+            })
+        };
+        rules.push(rule);
+    }
+    rules
+}
+
+/// From one value to 40, anywhere or near an end of the field, with neighbours for some.
+fn values_of(draws: &mut Draws, field: usize) -> Vec<u32> {
+    let largest = LARGEST[field];
+    let count = draws.pick(&[1, 2, 4, 10, 40]);
+    let mut values = Vec::new();
+    for _ in 0..count {
+        let value = match draws.below(4) {
+            0 => draws.between(0, 20),
+            1 => largest - draws.between(0, 20),
+            _ => draws.between(0, largest),
+        };
+        values.push(value);
+        if draws.once_in(4) {
+            values.push(value.saturating_add(1).min(largest));
+        }
+    }
+    values
+}
+
+/// A prefix of one of the values, or a range that begins or ends at one or two of them.
+fn pair_of(draws: &mut Draws, field: usize, values: &[u32]) -> [u32; 2] {
+    let (one, other) = (draws.pick(values), draws.pick(values));
+    match (field, draws.below(6)) {
+        (0 | 1, 0) => lists::prefix(one, 32),
+        (0 | 1, 1) => lists::prefix(one, 8),
+        (0 | 1, _) => lists::prefix(one, draws.between(0, 32)),
+        (_, 0) => [one, one],
+        (_, 1) => [0, one],
+        (_, 2) => [one, LARGEST[field]],
+        _ => [one.min(other), one.max(other)],
+    }
+}

@@ -146,18 +146,18 @@ void wick_scan_first(const uint32_t *rules, uint64_t rules_len, const uint32_t *
                      wick_answer *answer);
 
 /* Searches the tree for every rule of the reached leaf that matches. WARNING: it takes any words and judges neither the
- * list nor the tree. Search only a tree that wick_tree_check has accepted for these rules: see UNCHECKED TREES. Refuses
- * with 3, 6, 7, 4. Writes the numbers that match to the front of `out`, as the leaf lists them; the rest of `out` is as
- * found. By an accepted tree WICK_MOST_RULES words are always enough. a: how many it wrote, b: the nodes visited, with
- * root and leaf, and c: the entries compared. */
+ * list nor the tree. Search only a tree that wick_tree_check has accepted, or wick_build has built, for these rules:
+ * see UNCHECKED TREES. Refuses with 3, 6, 7, 4. Writes the numbers that match to the front of `out`, as the leaf lists
+ * them; the rest of `out` is as found. By an accepted tree WICK_MOST_RULES words are always enough. a: how many it
+ * wrote, b: the nodes visited, with root and leaf, and c: the entries compared. */
 void wick_tree_all(const uint32_t *rules, uint64_t rules_len, const uint32_t *nodes, uint64_t nodes_len,
                    const uint32_t *pool, uint64_t pool_len, const uint32_t *header, uint64_t header_len,
                    uint32_t *out, uint64_t out_len, wick_answer *answer);
 
 /* Searches the tree for the first rule of the reached leaf that matches. WARNING: it takes any words and judges neither
- * the list nor the tree. Search only a tree that wick_tree_check has accepted for these rules: see UNCHECKED TREES.
- * Refuses with 3, 6, 7. a: the rule's number + 1, or 0 where none matches, b: the nodes visited, with root and leaf,
- * and c: the entries compared, up to and with the match. */
+ * the list nor the tree. Search only a tree that wick_tree_check has accepted, or wick_build has built, for these
+ * rules: see UNCHECKED TREES. Refuses with 3, 6, 7. a: the rule's number + 1, or 0 where none matches, b: the nodes
+ * visited, with root and leaf, and c: the entries compared, up to and with the match. */
 void wick_tree_first(const uint32_t *rules, uint64_t rules_len, const uint32_t *nodes, uint64_t nodes_len,
                      const uint32_t *pool, uint64_t pool_len, const uint32_t *header, uint64_t header_len,
                      wick_answer *answer);
@@ -174,7 +174,7 @@ void wick_tree_check(const uint32_t *rules, uint64_t rules_len, const uint32_t *
  * with it, and extra is 1. So with just as much room a build may stop at a later node. Writes three words for each node
  * to the front of `nodes` and the leaf entries to the front of `pool`; the rest of both is as found. More than
  * WICK_MOST_NODE_WORDS and WICK_MOST_POOL_WORDS words are of no use. What it has built always passes wick_tree_check.
- * It needs STACK bytes of stack. a: the number of nodes, and b: of pool words. */
+ * It uses up to 250,000 bytes of stack. a: the number of nodes, and b: of pool words. */
 void wick_build(const uint32_t *rules, uint64_t rules_len, uint32_t *nodes, uint64_t nodes_len, uint32_t *pool,
                 uint64_t pool_len, wick_answer *answer);
 

@@ -1,12 +1,11 @@
 -- The build by what growing from the root says: a refusal stores nothing, and a whole tree is stored.
-use Prim.Native.Nat.{ℕ, _+_, _*_, _≤_, min}
+use Prim.Native.Nat.{ℕ, _*_, _≤_, min}
 use native.Mathlib.Nat.{min-le-left, min-le-right}
 use native.Mathlib.Omega.{arith}
-use mathlib.Core.Path.{_≡_, refl, sym, ap, _∙_}
-use mathlib.Core.List.{List, [], _∷_}
+use mathlib.Core.Path.{_≡_, refl, sym, _∙_}
+use mathlib.Core.List.{List}
 use lib.ListN.{length, take}
 use lib.Seq.{sets, length-take-le}
-use Rattle.facts.specs.Lists.{written}
 use Rattle.facts.proofs.Sets.{sets-front}
 use Rattle.facts.proofs.Setting.{written-front}
 use Rattle.refusals.specs.declared.Refusal.{Refusal}
@@ -54,7 +53,8 @@ module _ (rs nodes pool : List ℕ) {v : Verdict} (e : v ≡ listVerdict rs) whe
       {why : Refusal} → v ≡ Refused why → TreeBuilt rs nodes pool (built.Refused why) nodes pool
   unfolding buildVerdict
   list-refuses {why} q =
-      let w = then-refused _ (sym e ∙ q) in (writes-refused {why = why} w refl refl, writes-refused {why = why} w refl refl)
+      let w = then-refused _ (sym e ∙ q) in
+      (writes-refused {why = why} w refl refl, writes-refused {why = why} w refl refl)
 
   -- of a good list the tree decides
   pub list-fine :

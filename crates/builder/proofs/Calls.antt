@@ -1,9 +1,10 @@
--- What the build's promise tells of its answers: a tree is the list's own, it may serve, and it is one whatever the room;
+-- What the build's promise tells of its answers: a tree is the list's own, it may serve, and it is one whatever the
+-- room;
 -- and when it is refused.
 use Prim.Native.Nat.{ℕ, _*_, _≤_, min}
 use native.Mathlib.Nat.{min-le-left, min-le-right, le-min}
 use native.Mathlib.Omega.{arith}
-use mathlib.Core.Path.{_≡_, refl, sym, ap, _∙_}
+use mathlib.Core.Path.{_≡_, refl, sym, _∙_}
 use mathlib.Core.Logic.{_↔_}
 use mathlib.Core.List.{List, [], _∷_}
 use lib.ListN.{length, take}
@@ -15,7 +16,6 @@ use Rattle.refusals.proofs.Promises.{said-by, fine-by, refused-by, left-written
 use Rattle.rules.specs.Good.{listVerdict}
 use Rattle.trees.specs.Words.{nodeWords, mostNodes, mostPool}
 use Rattle.tree_check.specs.Serves.{Serves}
-use Rattle.builder.specs.declared.build.Built.{Built}
 use Rattle.builder.specs.declared.build.Built.the-variants.{Refused, Tree}
 use Rattle.builder.specs.Layout.{size}
 use Rattle.builder.specs.BuiltTree.{builtTree, builtNodes, builtPool, buildVerdict}
@@ -41,7 +41,12 @@ module _ (rs : List ℕ) {nodes pool : List ℕ} {n p : ℕ} {nodes′ pool′ :
   -- in front of both outputs stand the words of the list's own tree
   pub tree-front : (take (n * nodeWords) nodes′ ≡ builtNodes rs) × (take p pool′ ≡ builtPool rs)
   tree-front =
-      let long : length (builtNodes rs) ≡ n * nodeWords = omega (arith, length-laid (builtTree rs) 0 0, tree-counts .0) in (
+      let long : length (builtNodes rs) ≡ n * nodeWords = omega (
+        arith,
+        length-laid (builtTree rs) 0 0,
+        tree-counts
+            .0,
+      ) in (
         rw (tree-words .0) (written-front (builtNodes rs) nodes _ long),
         rw (tree-words .1) (written-front (builtPool rs) pool p (sym (tree-counts .1))),
       )

@@ -8,7 +8,7 @@ use mathlib.Core.List.{List, [], _∷_, _++_}
 use lib.ListN.{length, getD, drop, length-append}
 use lib.Dec.{eqb}
 use borrow.Author.Tests.{eqb-true, eqb-false, eq-eqb, ne-eqb}
-use Rattle.facts.specs.Lists.{keep, has, some}
+use Rattle.facts.specs.Lists.{keep, has, anyOf}
 use Rattle.facts.proofs.Bools.{sure}
 use Rattle.facts.proofs.Members.{has-first, has-tail}
 use Rattle.facts.proofs.Steps.{drop-step, drop-end, keep-none}
@@ -87,8 +87,8 @@ module _ (ws : List ℕ) (f : ℕ) where
     -- a number is an end of boxes exactly where some of them ends there
     pub ends-some :
         (met : List ℕ) → ((r : ℕ) → has met r ≡ true → r < boxCount ws) →
-        has (allEnds ws f met) v ≡ some (λ r. endsAt (boxOf (boxesIn ws) r) f v) met
-    unfolding allEnds has some
+        has (allEnds ws f met) v ≡ anyOf (λ r. endsAt (boxOf (boxesIn ws) r) f v) met
+    unfolding allEnds has anyOf
     ends-some [] h = refl
     ends-some (r ∷ rs) h =
         has-append (endsOf (boxWord ws r f 0) (boxWord ws r f 1)) (allEnds ws f rs) v ∙

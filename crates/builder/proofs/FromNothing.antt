@@ -1,5 +1,5 @@
 -- Where no node stands, the tree that is grown is the one that is defined.
-use Prim.Native.Nat.{ℕ, zero, suc, _+_, _<_}
+use Prim.Native.Nat.{ℕ, zero, suc, _+_}
 use native.Mathlib.Omega.{arith}
 use mathlib.Core.Bool.{true, false}
 use mathlib.Core.Path.{_≡_, refl, sym, ap, _∙_}
@@ -9,12 +9,10 @@ use borrow.Author.Tests.{ne-eqb}
 use Rattle.facts.proofs.Bools.{sure}
 use Rattle.fields.specs.Cuts.{leftOf, rightOf, leftPart, rightPart}
 use Rattle.fields.proofs.Cuts.{left-divided, right-divided}
-use Rattle.trees.specs.Node.{nodeAt}
 use Rattle.trees.proofs.Nodes.{node-missing}
 use Rattle.builder.specs.declared.choice.Choice.the-variants as choice
-use Rattle.builder.specs.Boxes.{meeting}
 use Rattle.builder.specs.CutValues.{chosenField, chosenValue, stops}
-use Rattle.builder.specs.Trees.{leaf, cut, grown}
+use Rattle.builder.specs.Trees.{cut, grown}
 use Rattle.builder.specs.Layout.{size}
 use Rattle.builder.specs.Choices.{freshChoice, choiceIn, choiceOf}
 use Rattle.builder.specs.Growing.{grownOn}

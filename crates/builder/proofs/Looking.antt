@@ -2,12 +2,12 @@
 use Prim.Native.Nat.{ℕ, _+_, _-_, _≤_, _<_}
 use native.Mathlib.Omega.{arith}
 use mathlib.Core.Bool.{Bool, true, false, cond, _||_}
-use mathlib.Core.Path.{_≡_, refl, sym, ap, subst, _∙_}
+use mathlib.Core.Path.{_≡_, refl, sym, ap, _∙_}
 use mathlib.Core.List.{List}
-use lib.ListN.{length, take, drop, length-take, length-drop}
+use lib.ListN.{length, take, drop, length-drop}
 use lib.Seq.{sets, length-take-le}
 use lib.Dec.{eqb}
-use Rattle.facts.specs.Lists.{keep, written, Kept}
+use Rattle.facts.specs.Lists.{keep, Kept}
 use Rattle.facts.proofs.Setting.{written-front}
 use Rattle.facts.proofs.Sets.{sets-front}
 use Rattle.fields.specs.Words.{fieldCount}
@@ -18,12 +18,11 @@ use Rattle.trees.specs.Words.{leafMark}
 use Rattle.trees.specs.Node.{nodeAt}
 use Rattle.trees.specs.Spelt.{Spelt}
 use Rattle.trees.proofs.Nodes.{leaf-is, cut-is}
-use Rattle.builder.specs.declared.choice.Choice.{Choice}
 use Rattle.builder.specs.declared.choice.Choice.the-variants as choice
 use Rattle.builder.specs.declared.grow.Spot.{Spot}
 use Rattle.builder.specs.declared.grow.Room.{Room}
 use Rattle.builder.specs.Boxes.{meeting}
-use Rattle.builder.specs.BoxWords.{boxCount, boxesIn, metBy}
+use Rattle.builder.specs.BoxWords.{boxesIn, metBy}
 use Rattle.builder.specs.CutValues.{chosenField, chosenValue, stops}
 use Rattle.builder.specs.Choices.{freshChoice, choiceIn, choiceOf}
 use Rattle.builder.specs.ChoiceSteps.{Met}
@@ -39,7 +38,8 @@ module _ {ws above standing kept : List ℕ} {b : List (List ℕ)} {spot : Spot}
     (k : Kept (metBy ws b) above found n after) where
   -- they are no more than a list has rules
   pub met-few : n ≤ mostRules
-  met-few = omega (arith, k .counts, ap length (g .reaches), meeting-at-most fieldCount (boxesIn ws) b, box-count ws, g .few)
+  met-few =
+      omega (arith, k .counts, ap length (g .reaches), meeting-at-most fieldCount (boxesIn ws) b, box-count ws, g .few)
 
   -- where there is room for as many, they stand in front
   pub met-front : mostRules ≤ length found → take n after ≡ meeting fieldCount (boxesIn ws) b
@@ -51,11 +51,22 @@ module _ {ws above standing kept : List ℕ} {b : List (List ℕ)} {spot : Spot}
   -- so they are what the choice goes by
   pub met-known : mostRules ≤ length found → Met ws (take n after) b
   met-known wide =
-      record { is = met-front wide; few = omega (arith, ap length (met-front wide), meeting-at-most fieldCount (boxesIn ws) b, box-count ws, g .few) }
+      record {
+        is = met-front wide;
+        few = omega (
+          arith,
+          ap length (met-front wide),
+          meeting-at-most fieldCount
+              (boxesIn ws) b,
+          box-count ws,
+          g .few,
+        );
+      }
 
 -- the entries of a leaf that stands, stored from the front on
 pub stands-front :
-    (kept : List ℕ) (start count : ℕ) (found : List ℕ) {after : List ℕ} → start + count ≤ length kept → count ≤ length found →
+    (kept : List ℕ) (start count : ℕ)
+    (found : List ℕ) {after : List ℕ} → start + count ≤ length kept → count ≤ length found →
     after ≡ sets found 0 (take (start + count - start) (drop start kept)) →
     take count after ≡ take count (drop start kept)
 stands-front kept start count found h room e =
@@ -91,7 +102,8 @@ module _ (k n : ℕ) (boxes : List (List (List ℕ))) (standing : List ℕ) (b :
       go :
           (x : Node) → nodeAt standing i ≡ x → choiceIn k (freshChoice k n boxes b) x ≡ choice.Stands start count →
           nodeAt standing i ≡ node.Leaf start count
-      go node.Missing q t = absurd (fresh-stands (eqb k 0 || stops n boxes b) (chosenField n boxes b) (chosenValue n boxes b) t)
+      go node.Missing q t =
+          absurd (fresh-stands (eqb k 0 || stops n boxes b) (chosenField n boxes b) (chosenValue n boxes b) t)
       go (node.Leaf s c) q t = q ∙ (let z = t in cc)
       go (node.Cut f v w) q t = absurd (fresh-stands (eqb k 0) f v t)
 

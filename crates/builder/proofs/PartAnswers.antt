@@ -1,19 +1,14 @@
 -- What is said of a part and its words, from what is said of its node and its parts.
-use Prim.Native.Nat.{ℕ, zero, suc, _+_, _-_, _*_, _≤_, _<_}
+use Prim.Native.Nat.{ℕ, zero, suc, _+_, _-_, _<_}
 use native.Mathlib.Omega.{arith}
-use mathlib.Core.Bool.{true, false}
-use mathlib.Core.Path.{_≡_, refl, sym, ap, _∙_}
-use mathlib.Core.List.{List, [], _∷_}
+use mathlib.Core.Path.{_≡_, refl, sym, _∙_}
+use mathlib.Core.List.{List}
 use lib.ListN.{length, take, drop}
-use lib.Seq.{sets}
 use Rattle.refusals.specs.declared.Refusal.{Refusal}
-use Rattle.refusals.specs.declared.Refusal.the-variants.{OutputShort}
 use Rattle.refusals.specs.declared.Verdict.{Verdict}
 use Rattle.refusals.specs.declared.Verdict.the-variants as verdict
 use Rattle.refusals.proofs.Order.{refused-not-fine}
-use Rattle.fields.specs.Words.{fieldCount}
 use Rattle.fields.specs.Cuts.{leftPart, rightPart}
-use Rattle.trees.specs.Words.{nodeWords, leafMark}
 use Rattle.trees.specs.declared.words.Node.{Node}
 use Rattle.trees.specs.declared.words.Node.the-variants as node
 use Rattle.trees.specs.Node.{nodeAt}
@@ -25,10 +20,9 @@ use Rattle.builder.specs.declared.grow.Spot.{Spot}
 use Rattle.builder.specs.declared.grow.Room.{Room}
 use Rattle.builder.specs.Boxes.{meeting}
 use Rattle.builder.specs.Trees.{Tree, leaf, cut}
-use Rattle.builder.specs.Layout.{size, pooled, laid, fits}
+use Rattle.builder.specs.Layout.{size, pooled}
 use Rattle.builder.specs.Choices.{freshChoice, choiceIn, choiceOf}
-use Rattle.builder.specs.BoxWords.{boxesIn}
-use Rattle.builder.specs.Growing.{grownOn, treeAt, leftSpot, rightSpot, grownSaid, fitsAt, GrownPart}
+use Rattle.builder.specs.Growing.{grownOn, grownSaid, fitsAt, GrownPart}
 
 -- ---- the tree, by what its node is
 

@@ -23,7 +23,8 @@ cut-words f v x y i s w =
     let next : i * nodeWords + 3 ≡ (i + 1) * nodeWords = omega arith in
     let far : (i + 1) * nodeWords + length (laid x (i + 1) s) ≡ (i + 1 + size x) * nodeWords =
     omega (arith, length-laid x (i + 1) s) in
-    rw (sets-apart w (i * nodeWords) ((i + 1) * nodeWords) (f ∷ v ∷ (i + 1 + size x) ∷ []) (laid x (i + 1) s) (omega arith))
+    rw (sets-apart w (i * nodeWords) ((i + 1) * nodeWords) (f ∷ v ∷ (i + 1 + size x) ∷ []) (laid x (i + 1) s)
+    (omega arith))
     (sym
     (sets-append w (i * nodeWords) (f ∷ v ∷ (i + 1 + size x) ∷ [])
     (laid x (i + 1) s ++ laid y (i + 1 + size x) (s + length (pooled x))) ∙

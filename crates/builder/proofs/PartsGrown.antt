@@ -1,8 +1,9 @@
--- A part grown from its node: a leaf, stored; a cut whose left part is refused; and a cut whose left part, own words and
+-- A part grown from its node: a leaf, stored; a cut whose left part is refused; and a cut whose left part, own words
+-- and
 -- right part are stored in turn.
-use Prim.Native.Nat.{ℕ, _+_, _*_, _≤_, _<_}
+use Prim.Native.Nat.{ℕ, _+_, _*_, _≤_}
 use native.Mathlib.Omega.{arith}
-use mathlib.Core.Path.{_≡_, refl, sym, ap, _∙_}
+use mathlib.Core.Path.{_≡_, refl, sym, _∙_}
 use mathlib.Core.List.{List, [], _∷_}
 use lib.ListN.{length, length-append}
 use lib.Seq.{sets}
@@ -15,7 +16,7 @@ use Rattle.builder.specs.declared.grow.Grown.the-variants as grown
 use Rattle.builder.specs.declared.grow.Spot.{Spot}
 use Rattle.builder.specs.declared.grow.Room.{Room}
 use Rattle.builder.specs.Trees.{Tree, leaf, cut}
-use Rattle.builder.specs.Layout.{size, pooled, laid, fits}
+use Rattle.builder.specs.Layout.{size, pooled, laid}
 use Rattle.builder.specs.Growing.{leftSpot, rightSpot, grownSaid, fitsAt, GrownPart}
 use Rattle.builder.proofs.FirstNode.{left-refuses, right-decides, leaf-fits}
 use Rattle.builder.proofs.PartWords.{cut-words, cut-entries}
@@ -60,7 +61,8 @@ module _ (f v : ℕ) (x y : Tree) (spot : Spot) (room : Room) (there : (spot .no
 
       decides : fitsAt (cut f v x y) spot room ≡ fitsAt y (rightSpot spot next entries) room
       decides =
-          right-decides (spot .node) (spot .entries) (room .nodes) (room .pool) there f v x y fine ∙ rw (← after, ← filled)
+          right-decides (spot .node) (spot .entries) (room .nodes) (room .pool) there f v x y fine ∙ rw
+          (← after, ← filled)
 
       says : (w : Verdict) → grownSaid w y next entries ≡ grownSaid w (cut f v x y) (spot .node) (spot .entries)
       unfolding size pooled

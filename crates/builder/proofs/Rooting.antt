@@ -1,12 +1,11 @@
 -- Growing from the root, where no node stands: all numbers may meet the root's box, and the tree is the one that is
 -- defined.
-use Prim.Native.Nat.{ℕ, _*_, _≤_, _<_}
+use Prim.Native.Nat.{ℕ}
 use native.Mathlib.Omega.{arith}
-use mathlib.Core.Bool.{true}
-use mathlib.Core.Path.{_≡_, refl, sym, ap, _∙_}
+use mathlib.Core.Path.{_≡_, refl, sym}
 use mathlib.Core.List.{List, []}
-use lib.ListN.{length, take}
-use Rattle.facts.specs.Lists.{upFrom, allUnder}
+use lib.ListN.{take}
+use Rattle.facts.specs.Lists.{upFrom}
 use Rattle.facts.proofs.Counted.{take-up}
 use Rattle.facts.proofs.Members.{up-iff}
 use Rattle.facts.proofs.Under.{all-under-iff-has}

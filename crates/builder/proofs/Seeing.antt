@@ -1,9 +1,10 @@
--- What a look at the first node of a part says of the part: it does not fit; it is a leaf; or it is a cut, and its parts
+-- What a look at the first node of a part says of the part: it does not fit; it is a leaf; or it is a cut, and its
+-- parts
 -- can be grown and joined.
 use Prim.Native.Nat.{ℕ, _+_, _-_, _*_, _≤_, _<_}
 use native.Mathlib.Omega.{arith}
 use mathlib.Core.Bool.{true}
-use mathlib.Core.Path.{_≡_, refl, sym, ap, subst, _∙_}
+use mathlib.Core.Path.{_≡_, sym, ap, subst, _∙_}
 use mathlib.Core.List.{List, [], _∷_}
 use lib.ListN.{length, take}
 use lib.Seq.{sets, length-take-le}
@@ -25,17 +26,16 @@ use Rattle.builder.specs.declared.grow.Spot.{Spot}
 use Rattle.builder.specs.declared.grow.Room.{Room}
 use Rattle.builder.specs.Boxes.{meeting}
 use Rattle.builder.specs.BoxWords.{boxCount, boxesIn}
-use Rattle.builder.specs.Trees.{Tree, leaf, cut}
-use Rattle.builder.specs.Layout.{size, pooled}
+use Rattle.builder.specs.Trees.{Tree, leaf}
 use Rattle.builder.specs.Choices.{choiceOf}
-use Rattle.builder.specs.Growing.{grownOn, treeAt, leftSpot, rightSpot, fitsAt, GrownPart, LeafFits, Growable}
+use Rattle.builder.specs.Growing.{treeAt, leftSpot, rightSpot, fitsAt, GrownPart, LeafFits, Growable}
 use Rattle.builder.specs.Growing.{Looked, short, isLeaf, isCut}
 use Rattle.builder.proofs.BoxWords.{box-count}
 use Rattle.builder.proofs.Meeting.{meeting-iff}
 use Rattle.builder.proofs.Narrower.{meeting-left, meeting-right}
 use Rattle.builder.proofs.Fitting.{fits-fine-iff}
 use Rattle.builder.proofs.FirstNode.{first-node-short}
-use Rattle.builder.proofs.PartAnswers.{tree-cut, part-refused, part-says}
+use Rattle.builder.proofs.PartAnswers.{tree-cut, part-says}
 use Rattle.builder.proofs.PartsGrown.{cut-refused, cut-grown}
 use Rattle.builder.proofs.Looking.{cut-field}
 
@@ -80,7 +80,9 @@ module _ {ws standing kept : List ℕ} {b : List (List ℕ)} {spot : Spot} {room
   seen-cut {f = f} {v = v} {count = count} w e =
       go (subst (λ (x : Look). Looked ws standing kept b spot room met x) e w)
     where
-      go : Looked ws standing kept b spot room met (look.Cut f v count) → SeenCut ws standing kept b spot room met f v count
+      go :
+          Looked ws standing kept b spot room met (look.Cut f v count) →
+          SeenCut ws standing kept b spot room met f v count
       go (isCut h n q m) = record { there = h; few = n; chosen = q; meets = m }
 
 -- a part of a cut has one cut fewer
@@ -89,7 +91,8 @@ left-less spot {at} e h = let q : at .cuts ≡ spot .cuts - 1 = ap (λ (s : Spot
 
 -- so has the other
 pub right-less :
-    (spot : Spot) {at : Spot} (next entries : ℕ) → at ≡ rightSpot spot next entries → 0 < spot .cuts → at .cuts < spot .cuts
+    (spot : Spot) {at : Spot} (next entries : ℕ) → at ≡ rightSpot spot next entries → 0 < spot .cuts →
+    at .cuts < spot .cuts
 right-less spot {at} next entries e h =
     let q : at .cuts ≡ spot .cuts - 1 = ap (λ (s : Spot). s .cuts) e in omega arith
 

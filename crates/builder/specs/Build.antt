@@ -1,5 +1,6 @@
 -- The build. Definitions only.
 --   paper                 an answer of the build, on paper: the numbers of nodes and of pool words
+--   builtValues rs        these numbers of the tree of a list
 --   TreeBuilt             the promise: the words of the tree stand in front of both outputs, or it is refused
 use Prim.Native.Nat.{ℕ}
 use mathlib.Core.List.{List, [], _∷_}

@@ -1,8 +1,8 @@
 -- Where a box is cut, by the ends of the boxes that meet it. Definitions only.
 --   endsAt a f v            v is the high of box a in field f, or its low less one; a low of 0 gives no such v
 --   cutsAt n boxes b f v    some box that meets b ends at v in field f
---   cutValues n boxes b f   the cut values of field f in box b: the numbers from its low to below its high at which some
---                           box that meets b ends; rising, each once
+--   cutValues n boxes b f   the cut values of field f in box b: the numbers from its low to below its high at which
+--                           some box that meets b ends; rising, each once
 --   cutCount n boxes b f    how many there are
 --   hasMost n boxes b f     no field has more cut values than field f
 --   chosenField n boxes b   the field with the most cut values, and the lowest of those that have as many
@@ -15,7 +15,7 @@ use mathlib.Core.List.{List}
 use lib.ListN.{length, getD}
 use lib.Dec.{leb, eqb}
 use Rattle.facts.specs.Below.{allBelow, lowest}
-use Rattle.facts.specs.Lists.{upFrom, keep, some}
+use Rattle.facts.specs.Lists.{upFrom, keep, anyOf}
 use Rattle.fields.specs.Boxes.{lowOf, highOf}
 use Rattle.builder.specs.Boxes.{boxOf, meeting}
 
@@ -23,7 +23,7 @@ unfoldable pub endsAt : List (List ℕ) → ℕ → ℕ → Bool
 endsAt a f v = eqb (highOf a f) v || eqb (lowOf a f) (v + 1)
 
 unfoldable pub cutsAt : ℕ → List (List (List ℕ)) → List (List ℕ) → ℕ → ℕ → Bool
-cutsAt n boxes b f v = some (λ r. endsAt (boxOf boxes r) f v) (meeting n boxes b)
+cutsAt n boxes b f v = anyOf (λ r. endsAt (boxOf boxes r) f v) (meeting n boxes b)
 
 unfoldable pub cutValues : ℕ → List (List (List ℕ)) → List (List ℕ) → ℕ → List ℕ
 cutValues n boxes b f = keep (cutsAt n boxes b f) (upFrom (lowOf b f) (highOf b f - lowOf b f))

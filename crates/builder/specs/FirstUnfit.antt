@@ -1,6 +1,6 @@
 -- What refusal 4 of the build is to mean, by node numbers and words. Definitions only.
---   RoomAt nodes a b i       node i fits in the room a for node words and b for pool words: the words of the nodes up to
---                            and including it do, and the entries of the leaves up to and including it
+--   RoomAt nodes a b i       node i fits in the room a for node words and b for pool words: the words of the nodes up
+--                            to and including it do, and the entries of the leaves up to and including it
 --   Unfit nodes a b i why    node i does not, and why says what is wanted: its node words, or else its entries
 --   FirstUnfit nodes a b why     `node` is the first that does not fit, and why says what is wanted
 use Prim.Native.Nat.{ℕ, _+_, _*_, _≤_, _<_}

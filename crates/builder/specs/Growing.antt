@@ -6,11 +6,12 @@
 --   treeAt             the tree of a part that begins at a spot
 --   leftSpot, rightSpot    where the parts of a cut begin
 --   grownSaid v t i s  what is said of the tree t from node i and place s on, by the verdict v
+--   fitsAt t spot room     whether the tree t fits from a spot on
 --   GrownPart          what growing a part leaves: its answer, and its words where it fits
 --   LeafFits           what a leaf asks for: its words fit, and its entries are few
 --   Growable           what growing a part asks for
---   Looked             what a part begins with: its node does not fit; a leaf and its entries; or a cut, and the numbers
---                      of the boxes that meet its box
+--   Looked             what a part begins with: its node does not fit; a leaf and its entries; or a cut, and the
+--                      numbers of the boxes that meet its box
 use Prim.Native.Nat.{ℕ, zero, suc, _+_, _-_, _*_, _≤_, _<_}
 use mathlib.Core.Bool.{true}
 use mathlib.Core.Path.{_≡_}

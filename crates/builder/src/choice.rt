@@ -134,8 +134,8 @@ fn more_of(first: Values, next: Values) -> Values
     first
 }
 
-// The cut values of field `f` in a box, found in lent words. Where it cannot have more than `least` they are not sorted,
-// and none are said.
+// The cut values of field `f` in a box, found in lent words. Where it cannot have more than `least` they are not
+// sorted, and none are said.
 fn values_of(
     boxes: &[u32],
     met: &[u32],

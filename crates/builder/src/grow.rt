@@ -28,7 +28,8 @@ pub enum Grown {
     Part { next: usize, entries: usize },
 }
 
-// What a part begins with: a node whose words do not fit; a leaf of so many entries; or a cut, where so many boxes meet.
+// What a part begins with: a node whose words do not fit; a leaf of so many entries; or a cut, where so many boxes
+// meet.
 pub enum Look {
     Refused(Refusal),
     Leaf {
@@ -55,8 +56,8 @@ pub struct Room {
 }
 
 // The part of a box that begins at a spot. `above` has the numbers of the boxes that meet the box around it, `standing`
-// and `kept` the nodes that stand already and their entries. Words are stored as far as `nodes` and `pool` reach; 4 goes
-// by `room`.
+// and `kept` the nodes that stand already and their entries. Words are stored as far as `nodes` and `pool` reach; 4
+// goes by `room`.
 pub(crate) fn grow(
     boxes: &[u32],
     above: &[u32],
@@ -69,8 +70,8 @@ pub(crate) fn grow(
     pool: &mut [u32],
 ) -> Grown
     requires { ⌜ Growable (now boxes) (now above) (now standing) (now kept) bounds spot room ⌝ }
-    ensures { λ r. ⌜ GrownPart (treeAt (now (boxes .entry)) (now (standing .entry)) (now (kept .entry)) bounds spot) spot
-        room (now (nodes .entry)) (now (pool .entry)) r (now (nodes .exit)) (now (pool .exit)) ⌝ }
+    ensures { λ r. ⌜ GrownPart (treeAt (now (boxes .entry)) (now (standing .entry)) (now (kept .entry)) bounds spot)
+        spot room (now (nodes .entry)) (now (pool .entry)) r (now (nodes .exit)) (now (pool .exit)) ⌝ }
 {
     let mut met = [0u32; MOST_RULES];
     match look_at(boxes, above, standing, kept, bounds, spot, room, &mut met) {
@@ -207,7 +208,8 @@ fn leaf_part(list: &[u32], spot: Spot, room: Room, nodes: &mut [u32], pool: &mut
 // Stores the words of a cut.
 fn store_cut(nodes: &mut [u32], spot: Spot, field: usize, value: u32, child: usize)
     requires { ⌜ (spot .node < mostNodes) × (field < fieldCount) × (child ≤ mostNodes) ⌝ }
-    ensures { λ _. ⌜ now (nodes .exit) ≡ sets (now (nodes .entry)) (spot .node * nodeWords) (field ∷ value ∷ child ∷ []) ⌝ }
+    ensures { λ _. ⌜ now (nodes .exit) ≡ sets (now (nodes .entry)) (spot .node * nodeWords)
+        (field ∷ value ∷ child ∷ []) ⌝ }
 {
     let at = spot.node;
     store_node(nodes, at, field as u32, value, child as u32);

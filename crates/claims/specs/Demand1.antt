@@ -34,7 +34,8 @@ Code M =
     in-trees.search.tree_first.Statement.statement M × in-check.check.tree_check.Statement.statement M ×
     in-rule-file.write.rules_write.Statement.statement M × in-rule-file.read.rules_read.Statement.statement M ×
     in-tree-file.write.tree_write.Statement.statement M × in-tree-file.read.tree_read.Statement.statement M ×
-    in-builder.build.build.Statement.statement M × in-console.reply.reply.Statement.statement M × in-console.feed.feed.Statement.statement M ×
+    in-builder.build.build.Statement.statement M × in-console.reply.reply.Statement.statement M ×
+    in-console.feed.feed.Statement.statement M ×
     in-console.feed.last_reply.Statement.statement M × in-policy.list.take_list.Statement.statement M ×
     in-policy.tree.take_tree.Statement.statement M × in-policy.serving.who_serves.Statement.statement M ×
     in-policy.line.verdict_line.Statement.statement M × exports.line.wick_rule_check.Statement.statement M ×

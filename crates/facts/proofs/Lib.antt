@@ -11,7 +11,6 @@ pub mod Tables
 pub mod Setting
 pub mod Sets
 pub mod Members
-pub mod Some
 pub mod Places
 pub mod Counted
 pub mod Keeping

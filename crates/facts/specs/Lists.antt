@@ -3,7 +3,7 @@
 --   tabulate n g   the n numbers g 0, g 1, ..
 --   keep p l       the numbers of l of which p holds, in l's order, each as often as it stands there
 --   has l y        y stands in l
---   some p l       p holds of some number of l; false of the empty list
+--   anyOf p l      p holds of some number of l; false of the empty list
 --   rises a l      l rises strictly, and its first number is at least a; true of the empty list
 --   allUnder n l   every number of l is below n; true of the empty list
 --   written new found    lent words that held found, once new was written from their front on: the rest is as found
@@ -33,9 +33,9 @@ unfoldable pub has : List ℕ → ℕ → Bool
 has [] y = false
 has (x ∷ xs) y = eqb x y || has xs y
 
-unfoldable pub some : (ℕ → Bool) → List ℕ → Bool
-some p [] = false
-some p (x ∷ xs) = p x || some p xs
+unfoldable pub anyOf : (ℕ → Bool) → List ℕ → Bool
+anyOf p [] = false
+anyOf p (x ∷ xs) = p x || anyOf p xs
 
 unfoldable pub rises : ℕ → List ℕ → Bool
 rises a [] = true

@@ -5,3 +5,7 @@ pub mod Taking
 pub mod Servers
 pub mod Output
 pub mod Unique
+pub mod Compiling
+pub mod BuiltWords
+pub mod CompiledServes
+pub mod CompiledSize

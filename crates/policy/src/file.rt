@@ -2,6 +2,9 @@
 ghost use Prim.Native.Nat.{min};
 ghost use mathlib.Core.Path.{_≡_};
 
+// The most bytes of a file that the programs read. No tree that a list is compiled into has a longer text.
+pub const MOST_FILE: usize = 65536;
+
 // It was not read to its end, or is too long; or it has `count` bytes, which stand in front of a buffer.
 pub enum File {
     NotRead,

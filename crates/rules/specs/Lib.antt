@@ -1,4 +1,4 @@
--- Lists of rules, and the promises of the rule check and the line search.
+-- Lists of rules, the ends of their fields, and the promises of the rule check and the line search.
 pub mod Words
 pub mod Good
 pub mod Matching

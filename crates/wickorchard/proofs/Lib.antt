@@ -1,5 +1,3 @@
--- The laws of the program: what a read says, read after read, what stands in front, and what a piece of input leaves.
-pub mod Reading
-pub mod Loading
+-- The laws of the program: who answers as the list does, and what a piece of input leaves.
 pub mod Standing
 pub mod Turning

@@ -20,12 +20,13 @@ use Rattle.console.proofs.Parts.{restOf}
 use Rattle.console.proofs.Pieces.{after-pieces}
 use Rattle.console.proofs.Short.{answer-short, some-taken}
 use Rattle.policy.specs.Output.{byList}
-use Rattle.wickorchard.specs.declared.load.Got.{Got}
+use Rattle.system.specs.declared.load.Got.{Got}
+use Rattle.system.specs.Handed.{InFront}
+use Rattle.system.proofs.Standing.{front-written}
 use Rattle.wickorchard.specs.declared.serve.Turn.{Turn}
-use Rattle.wickorchard.specs.Handed.{AnswersAsList, InFront}
+use Rattle.wickorchard.specs.Handed.{AnswersAsList}
 use Rattle.wickorchard.specs.Turns.{moreToRead, outputFailed, firstTurn, PieceAnswered, all, ByGot, GotAnswered}
 use Rattle.wickorchard.specs.Turns.{dueAtEnd}
-use Rattle.wickorchard.proofs.Standing.{front-written}
 
 pub record Head (from : Gathering) (piece : List ℕ) (g : Gathering) (at : ℕ) : Type 0 where
   pub within : at ≤ length piece

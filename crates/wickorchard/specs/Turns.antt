@@ -14,8 +14,8 @@ use mathlib.Core.List.{List, []}
 use lib.ListN.{take}
 use Rattle.console.specs.declared.gather.Gathering.{Gathering}
 use Rattle.console.specs.Gathered.{begun, after, lastReply}
-use Rattle.wickorchard.specs.declared.load.Got.{Got}
-use Rattle.wickorchard.specs.declared.load.Got.the-variants.{Failed, Ended, Bytes}
+use Rattle.system.specs.declared.load.Got.{Got}
+use Rattle.system.specs.declared.load.Got.the-variants.{Failed, Ended, Bytes}
 use Rattle.wickorchard.specs.declared.serve.Turn.{Turn}
 
 abbrev pub moreToRead : Gathering → Turn

@@ -2,28 +2,14 @@
 use crate::serve::Turn;
 use console::feed::last_reply;
 use console::gather::Gathering;
-use libc::STDOUT_FILENO;
-use policy::line::verdict_line;
-use refusals::Verdict;
+use system::out::MOST_REFUSED;
+use system::out::write_front;
 use text::put::Written;
-ghost use Prim.Native.Nat.{_≤_};
-ghost use lib.ListN.{length};
 ghost use Rattle.text.specs.Said.{Said};
 ghost use Rattle.console.specs.Replies.{answerTo};
 ghost use Rattle.console.specs.Gathered.{answers};
-ghost use Rattle.policy.specs.Output.{verdictLine};
-ghost use Rattle.wickorchard.specs.Handed.{InFront, ReplyInFront};
+ghost use Rattle.system.specs.Handed.{InFront, ReplyInFront};
 ghost use Rattle.wickorchard.specs.Turns.{dueAtEnd};
-
-// The most bytes of the line of a refusal: `refused`, three numbers of at most 20 digits, their tabs and the newline.
-const MOST_REFUSED: usize = 71;
-
-// Writes the line of a refusal, or nothing where the verdict is fine; and answers whether it was written.
-pub(crate) fn say_verdict(verdict: Verdict) -> bool {
-    let mut out = [0u8; MOST_REFUSED];
-    let said = verdict_line(verdict, &mut out);
-    write_verdict(verdict, said, &out)
-}
 
 // Writes what is due at the end of the input: the reply to a last part without newline.
 pub(crate) fn say_last(turn: Turn) -> bool {
@@ -41,16 +27,6 @@ fn last_line(turn: Turn, out: &mut [u8]) -> Written
         return Written::Bytes { bytes: 0 };
     }
     last_reply(from, out)
-}
-
-// Writes what is due for a verdict.
-fn write_verdict(verdict: Verdict, said: Written, out: &[u8]) -> bool
-    requires { ⌜ ReplyInFront (verdictLine verdict) (now out) said ⌝ }
-{
-    match said {
-        Written::Refused(_) => false,
-        Written::Bytes { bytes } => write_front(bytes, out),
-    }
 }
 
 // Writes what is due at the end of the input.
@@ -78,11 +54,4 @@ pub(crate) fn write_replies(
         (now out) ⌝ }
 {
     write_front(count, out)
-}
-
-// Writes the first `count` bytes of `out`, and answers whether all of them were written.
-fn write_front(count: usize, out: &[u8]) -> bool
-    requires { ⌜ count ≤ length (now out) ⌝ }
-{
-    io::write_all(STDOUT_FILENO, &out[..count])
 }

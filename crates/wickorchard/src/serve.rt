@@ -1,17 +1,17 @@
 // The lines of standard input, answered. Each is answered before the program waits for more.
-use crate::load::Got;
-use crate::load::read_some;
 use crate::out::say_last;
 use crate::out::write_replies;
 use console::feed::feed;
 use console::gather::Gathering;
 use libc::STDIN_FILENO;
+use system::load::Got;
+use system::load::read_some;
 ghost use Prim.Native.Nat.{_≤_};
 ghost use mathlib.Core.Bool.{false};
 ghost use mathlib.Core.Path.{_≡_};
 ghost use lib.ListN.{length};
 ghost use Rattle.console.specs.Lines.{mostReply};
-ghost use Rattle.wickorchard.specs.Reads.{Gets};
+ghost use Rattle.system.specs.Reads.{Gets};
 ghost use Rattle.wickorchard.specs.Handed.{AnswersAsList};
 ghost use Rattle.wickorchard.specs.Turns.{moreToRead, inputEnded, outputFailed, firstTurn};
 ghost use Rattle.wickorchard.specs.Turns.{PieceAnswered, GotAnswered};

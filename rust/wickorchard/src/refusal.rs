@@ -15,9 +15,10 @@ pub enum Refusal {
     /// 3: a port or the protocol of the header is too large, and this is the lowest such field; or the header is not
     /// five words, and the field is 5.
     HeaderWrong { field: u64 },
-    /// 4: the lent output is too short. So many numbers, words or bytes are needed.
+    /// 4: the lent output is too short, or a tree that is built has too many node words. So many numbers, words or
+    /// bytes are needed.
     OutputShort { needed: u64 },
-    /// 4: the lent pool is too short. So many words are needed.
+    /// 4: the lent pool is too short, or a tree that is built has too many pool words. So many words are needed.
     PoolShort { needed: u64 },
     /// 5: the node words are none, not a multiple of three, or over 6,141; or the pool is over 4,096.
     TreeWordsWrong,

@@ -52,7 +52,7 @@ serve-requires c κs =
     let serving = c .before .before .before in
     let taken = serving .before .before .before .before .before in
     let start = taken .before .before .before .before .before .before .before .before .before .before .before in
-    serving-handed _ _ _ _ (start .pre .0) (serving .who-serves .ensures)
+    serving-handed _ _ _ _ (start .pre) (serving .who-serves .ensures)
 
 same-length : tie.Need-same-length
 same-length c = search needs

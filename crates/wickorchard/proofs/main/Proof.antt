@@ -1,9 +1,8 @@
 -- `wickorchard::main` is safe, and what it hands on is the list of a file. Assumes nothing.
-use native.Mathlib.Omega.{arith}
 use mathlib.Core.Path.{sym}
 use lib.Seq.{length-take-le}
 use borrow.Author.Needs.{needs}
-use Rattle.wickorchard.proofs.Standing.{list-handed}
+use Rattle.policy.proofs.Listing.{list-handed}
 use Rattle.wickorchard.proofs.main.Statement.{statement}
 use Rattle.wickorchard.proofs.main.Tie as tie
 
@@ -52,7 +51,7 @@ answer-requires : tie.Need-answer-requires
 answer-requires c κs =
     let w = c .before .before .before in
     let v = w .before .before .before in
-    (list-handed _ (v .take-list .ensures) (w .words .given .1) .0, omega arith)
+    list-handed _ (v .take-list .ensures) (w .words .given .1) .0
 
 returns : tie.Need-returns
 returns c = search needs

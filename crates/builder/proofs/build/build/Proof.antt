@@ -15,7 +15,8 @@ enum-told : tie.Need-enum-told
 enum-told c = search needs
 
 build-good-requires : tie.Need-build-good-requires
-build-good-requires c κs = sym (c .before .before .before .before .list-verdict .ensures) ∙ c .before .before .enum-told .given .1
+build-good-requires c κs =
+    sym (c .before .before .before .before .list-verdict .ensures) ∙ c .before .before .enum-told .given .1
 
 returns : tie.Need-returns
 returns c = list-refuses _ _ _ (c .before .before .before .list-verdict .ensures) (c .before .why .given .1)
@@ -29,7 +30,8 @@ same-length-2 c = search needs
 returns-2 : tie.Need-returns-2
 returns-2 c =
     let b = c .before .before .before .before in
-    list-fine _ _ _ (b .before .before .before .before .before .list-verdict .ensures) (b .before .before .before .enum-told .given .1) (b .build-good .ensures)
+    list-fine _ _ _ (b .before .before .before .before .before .list-verdict .ensures) (b .before .before .before
+    .enum-told .given .1) (b .build-good .ensures)
 
 pub build-spec : {M : Type 1} → statement M
 build-spec =

@@ -1,12 +1,30 @@
 -- `builder::build::build_boxes` meets its contract: a refusal stores nothing, and a whole tree is stored in front of
 -- both outputs. Assumes nothing.
+use Prim.Native.Nat.{_*_, _≤_}
 use native.Mathlib.Omega.{arith}
 use mathlib.Core.Path.{refl, sym}
 use lib.Seq.{length-take-le}
-use Rattle.builder.proofs.Building.{room-rooted, root-refuses, root-fits, root-stored}
 use borrow.Author.Needs.{needs}
+use Rattle.trees.specs.Words.{nodeWords, mostNodes, mostPool}
+use Rattle.builder.proofs.Building.{room-rooted, root-refuses, root-fits, root-stored}
 use Rattle.builder.proofs.build.build_boxes.Statement.{statement}
 use Rattle.builder.proofs.build.build_boxes.Tie as tie
+
+-- where the tree was grown, from where its counts are read
+abbrev grown : tie.After-next → tie.After-grow-root
+grown c = c .before .before .before .before
+
+-- the tree is within the limits
+fits :
+    (c : tie.After-next) →
+    (c .next .given .0 .0 * nodeWords ≤ mostNodes * nodeWords) × (c .next .given .0 .1 .0 ≤ mostPool)
+fits c =
+    let g = grown c in
+    let s = g .before .before .before .before .before .before .before .args in
+    let f =
+    root-fits _ (s .nodes .now) (s .pool .now) (g .before .before .before .room-of .ensures) (g .grow-root .ensures)
+    (c .next .given .1) in
+    (f .1, f .3)
 
 room-of-requires : tie.Need-room-of-requires
 room-of-requires c κs = search needs
@@ -28,32 +46,15 @@ enum-known-next : tie.Need-enum-known-next
 enum-known-next c = search needs
 
 mul-end : tie.Need-mul-end
-mul-end c =
-    let n = c .before in
-    let g = n .before .before .before .before in
-    omega (arith, root-fits _ (g .before .before .before .before .before .before .before .args .nodes .now) (g .before .before .before .before .before .before .before .args .pool .now) (g .before .before .before .room-of .ensures) (g .grow-root .ensures) (n .next .given .1) .1)
+mul-end c = omega (arith, fits (c .before) .0)
 
 array-share-prefix-words : tie.Need-array-share-prefix-words
 array-share-prefix-words c =
-    let n = c .before .before in
-    let g = n .before .before .before .before in
-    omega (
-      arith,
-      root-fits _ (g .before .before .before .before .before .before .before .args .nodes .now) (g .before .before .before .before .before .before .before .args .pool .now) (g .before .before .before .room-of .ensures) (g .grow-root .ensures) (n .next .given .1) .1,
-      g .grow-root .kept,
-    )
+    let n = c .before .before in omega (arith, fits n .0, grown n .grow-root .kept)
 
 slice-aggregate-store-all : tie.Need-slice-aggregate-store-all
 slice-aggregate-store-all c =
-    let n = c .before .before .before in
-    let g = n .before .before .before .before in
-    sym
-    (length-take-le _ _
-    (omega (
-      arith,
-      root-fits _ (g .before .before .before .before .before .before .before .args .nodes .now) (g .before .before .before .before .before .before .before .args .pool .now) (g .before .before .before .room-of .ensures) (g .grow-root .ensures) (n .next .given .1) .1,
-      g .grow-root .kept,
-    )))
+    let n = c .before .before .before in sym (length-take-le _ _ (omega (arith, fits n .0, grown n .grow-root .kept)))
 
 store-all-requires : tie.Need-store-all-requires
 store-all-requires c κs = search needs
@@ -61,24 +62,12 @@ store-all-requires c κs = search needs
 array-share-prefix-list : tie.Need-array-share-prefix-list
 array-share-prefix-list c =
     let n = c .before .before .before .before .before .before .before in
-    let g = n .before .before .before .before in
-    omega (
-      arith,
-      root-fits _ (g .before .before .before .before .before .before .before .args .nodes .now) (g .before .before .before .before .before .before .before .args .pool .now) (g .before .before .before .room-of .ensures) (g .grow-root .ensures) (n .next .given .1) .3,
-      g .grow-root .kept,
-    )
+    omega (arith, fits n .1, grown n .grow-root .kept)
 
 slice-aggregate-store-all-2 : tie.Need-slice-aggregate-store-all-2
 slice-aggregate-store-all-2 c =
     let n = c .before .before .before .before .before .before .before .before in
-    let g = n .before .before .before .before in
-    sym
-    (length-take-le _ _
-    (omega (
-      arith,
-      root-fits _ (g .before .before .before .before .before .before .before .args .nodes .now) (g .before .before .before .before .before .before .before .args .pool .now) (g .before .before .before .room-of .ensures) (g .grow-root .ensures) (n .next .given .1) .3,
-      g .grow-root .kept,
-    )))
+    sym (length-take-le _ _ (omega (arith, fits n .1, grown n .grow-root .kept)))
 
 store-all-requires-2 : tie.Need-store-all-requires-2
 store-all-requires-2 c κs = search needs
@@ -86,7 +75,9 @@ store-all-requires-2 c κs = search needs
 returns : tie.Need-returns
 returns c =
     let g = c .before .before .before .before .before in
-    root-refuses _ (g .before .before .before .before .before .before .before .args .nodes .now) (g .before .before .before .before .before .before .before .args .pool .now) (g .before .before .before .room-of .ensures) (g .grow-root .ensures) (c .before .why .given .1) refl refl
+    let s = g .before .before .before .before .before .before .before .args in
+    root-refuses _ (s .nodes .now) (s .pool .now) (g .before .before .before .room-of .ensures)
+    (g .grow-root .ensures) (c .before .why .given .1) refl refl
 
 same-length : tie.Need-same-length
 same-length c = search needs
@@ -99,8 +90,10 @@ returns-2 c =
     let last = c .before .before in
     let first = last .before .before .before .before .before in
     let n = first .before .before .before .before in
-    let g = n .before .before .before .before in
-    root-stored _ (g .before .before .before .before .before .before .before .args .nodes .now) (g .before .before .before .before .before .before .before .args .pool .now) (g .before .before .before .room-of .ensures) (g .grow-root .ensures) (n .next .given .1) (omega arith) (omega arith)
+    let g = grown n in
+    let s = g .before .before .before .before .before .before .before .args in
+    root-stored _ (s .nodes .now) (s .pool .now) (g .before .before .before .room-of .ensures)
+    (g .grow-root .ensures) (n .next .given .1) (omega arith) (omega arith)
     (first .store-all .ensures) (last .store-all2 .ensures)
 
 pub build-boxes-spec : {M : Type 1} → statement M

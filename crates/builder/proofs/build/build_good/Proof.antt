@@ -22,17 +22,28 @@ fill-boxes-requires c κs =
 
 array-share-prefix-boxes : tie.Need-array-share-prefix-boxes
 array-share-prefix-boxes c =
-    omega (arith, fine-iff-good _ .0 (c .before .before .before .before .before .before .pre) .few, c .before .fill-boxes .kept)
+    omega (
+      arith,
+      fine-iff-good _ .0 (c .before .before .before .before .before .before .pre) .few,
+      c .before
+          .fill-boxes .kept,
+    )
 
 slice-aggregate-build-boxes : tie.Need-slice-aggregate-build-boxes
 slice-aggregate-build-boxes c =
     sym
     (length-take-le _ _
-    (omega (arith, fine-iff-good _ .0 (c .before .before .before .before .before .before .before .pre) .few, c .before .before .fill-boxes .kept)))
+    (omega (
+      arith,
+      fine-iff-good _ .0 (c .before .before .before .before .before .before .before .pre) .few,
+      c .before
+          .before .fill-boxes .kept,
+    )))
 
 build-boxes-requires : tie.Need-build-boxes-requires
 build-boxes-requires c κs =
-    boxes-few _ _ (fine-iff-good _ .0 (c .before .before .before .before .before .before .before .before .before .pre)) (c .before .before .before .before .fill-boxes .kept .1 .0)
+    boxes-few _ _ (fine-iff-good _ .0 (c .before .before .before .before .before .before .before .before .before
+    .pre)) (c .before .before .before .before .fill-boxes .kept .1 .0)
 
 same-length : tie.Need-same-length
 same-length c = search needs

@@ -36,7 +36,8 @@ root-spot-requires c κs = search needs
 
 grow-requires : tie.Need-grow-requires
 grow-requires c κs =
-    root-growable _ (c .before .before .before .root-box .ensures) (c .before .before .root-spot .ensures) (c .before .before .before .before .before .before .before .before .before .before .before .before .before .pre)
+    root-growable _ (c .before .before .before .root-box .ensures) (c .before .before .root-spot .ensures) (c .before
+    .before .before .before .before .before .before .before .before .before .before .before .before .pre)
     (c .before .before .before .before .before .before .before .before .count-up .ensures)
 
 same-length : tie.Need-same-length
@@ -47,7 +48,9 @@ same-length-2 c = search needs
 
 returns : tie.Need-returns
 returns c =
-    root-grown _ (c .before .before .before .before .before .before .before .before .root-box .ensures) (c .before .before .before .before .before .before .before .root-spot .ensures) (c .before .before .before .before .grow .ensures)
+    root-grown _ (c .before .before .before .before .before .before .before .before .root-box .ensures) (c .before
+    .before .before .before .before .before .before .root-spot .ensures) (c .before .before .before .before .grow
+    .ensures)
 
 pub grow-root-spec : {M : Type 1} → statement M
 grow-root-spec =

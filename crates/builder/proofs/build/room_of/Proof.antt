@@ -1,5 +1,4 @@
 -- `builder::build::room_of` meets its contract: the smaller of each two. Assumes nothing.
-use mathlib.Core.Path.{refl}
 use borrow.Author.Needs.{needs}
 use Rattle.builder.proofs.build.room_of.Statement.{statement}
 use Rattle.builder.proofs.build.room_of.Tie as tie

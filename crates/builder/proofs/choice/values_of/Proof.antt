@@ -25,7 +25,12 @@ lent-few :
     (c : tie.After-store-ends) →
     let n = c .store-ends .result in length (take n (c .store-ends .last .1 .1 .1 .1 .0)) ≡ n
 lent-few c =
-    length-take-le (c .store-ends .result) (c .store-ends .last .1 .1 .1 .1 .0) (omega (arith, room-left c .0, room-left c .1))
+    length-take-le (c .store-ends .result) (c .store-ends .last .1 .1 .1 .1 .0) (omega (
+      arith,
+      room-left c
+          .0,
+      room-left c .1,
+    ))
 
 -- so are those that are left
 sorted-few : (c : tie.After-sort-once) → c .sort-once .result ≤ mostValues
@@ -82,7 +87,12 @@ returns c =
     let e = c .before .before .before in
     let start = e .before .before .before .before .before .before in
     few refl refl
-    (omega (arith, values-few (start .pre .0) _ (e .store-ends .ensures) (start .pre .2) (start .pre .1), c .if1 .taken))
+    (omega (
+      arith,
+      values-few (start .pre .0) _ (e .store-ends .ensures) (start .pre .2) (start .pre .1),
+      c .if1
+          .taken,
+    ))
 
 returns-2 : tie.Need-returns-2
 returns-2 c =

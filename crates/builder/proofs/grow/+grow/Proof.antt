@@ -1,4 +1,5 @@
--- `builder::grow::grow` meets its contract: what is looked at decides, and for a cut its left part, its own words and its
+-- `builder::grow::grow` meets its contract: what is looked at decides, and for a cut its left part, its own words
+-- and its
 -- right part are stored in turn. The cuts still allowed fall at each call. Assumes nothing.
 mod Seen
 use Prim.Native.Nat.{ℕ}
@@ -85,7 +86,8 @@ module _ (t : ℕ) where
   array-share-prefix-met-3 c = cut-within (cut-of (left-end (c .before .before .before .before .before)))
 
   slice-aggregate-grow-2 : lts.Need-slice-aggregate-grow-2 (calls t) (given t) Post
-  slice-aggregate-grow-2 c = sym (length-take-le _ _ (cut-within (cut-of (left-end (c .before .before .before .before .before .before)))))
+  slice-aggregate-grow-2 c =
+      sym (length-take-le _ _ (cut-within (cut-of (left-end (c .before .before .before .before .before .before)))))
 
   right-part-requires : lts.Need-right-part-requires (calls t) (given t) Post
   right-part-requires c κs = tt
@@ -102,13 +104,20 @@ module _ (t : ℕ) where
       let f = cut-of l in
       let s = entry (cut-look f) in
       let at = c .before .before in (
-        omega (arith, s .pre .0, right-less (s .args .spot) _ _ (at .right-spot .ensures) (seen-allowed (s .pre .1) (cut-seen f))),
-        right-growable (s .pre .1) (cut-seen f) (l .before .before .before .before .left-part .ensures) (l .before .before .before .left-spot .ensures)
+        omega (
+          arith,
+          s .pre .0,
+          right-less (s .args .spot) _ _ (at .right-spot .ensures) (seen-allowed (s .pre .1)
+              (cut-seen f)),
+        ),
+        right-growable (s .pre .1) (cut-seen f) (l .before .before .before .before .left-part .ensures) (l .before
+            .before .before .left-spot .ensures)
             (l .grow .ensures) (n .next .given .1) (at .before .right-part .ensures) (at .right-spot .ensures),
       )
 
   returns : lts.Need-returns (calls t) (given t) Post
-  returns c = part-refused (seen-short (c .before .before .before .before .look-at .ensures) (c .before .why .given .1) _)
+  returns c =
+      part-refused (seen-short (c .before .before .before .before .look-at .ensures) (c .before .why .given .1) _)
 
   same-length : lts.Need-same-length (calls t) (given t) Post
   same-length c = search needs
@@ -117,7 +126,9 @@ module _ (t : ℕ) where
   same-length-2 c = search needs
 
   returns-2 : lts.Need-returns-2 (calls t) (given t) Post
-  returns-2 c = rw (leaf-seen (c .before .before .before .before .before .before .before .before .before) .tree) (c .before .before .before .before .leaf-part .ensures)
+  returns-2 c =
+      rw (leaf-seen (c .before .before .before .before .before .before .before .before .before) .tree) (c .before
+      .before .before .before .leaf-part .ensures)
 
   same-length-3 : lts.Need-same-length-3 (calls t) (given t) Post
   same-length-3 c = search needs
@@ -129,7 +140,8 @@ module _ (t : ℕ) where
   returns-3 c =
       let l = c .before .before .before .before .before .before .before in
       let f = cut-of l in
-      left-part-refused (entry (cut-look f) .pre .1) (cut-seen f) (l .before .before .before .before .left-part .ensures)
+      left-part-refused (entry (cut-look f) .pre .1) (cut-seen f) (l .before .before .before .before .left-part
+      .ensures)
       (l .before .before .before .left-spot .ensures) (l .grow .ensures) (c .before .why2 .given .1)
 
   same-length-5 : lts.Need-same-length-5 (calls t) (given t) Post
@@ -147,7 +159,8 @@ module _ (t : ℕ) where
       let f = cut-of l in
       parts-joined (entry (cut-look f) .pre .1) (cut-seen f) (l .before .before .before .before .left-part .ensures)
       (l .before .before .before .left-spot .ensures) (l .grow .ensures) (n .next .given .1) (st .store-cut .ensures)
-      (r .before .before .before .before .right-part .ensures) (r .before .before .before .right-spot .ensures) (r .grow2 .ensures)
+      (r .before .before .before .before .right-part .ensures) (r .before .before .before .right-spot .ensures) (r
+      .grow2 .ensures)
 
 pub +grow-spec : {M : Type 1} → statement M
 +grow-spec = close μ λ t. lts.spec (calls t) (given t) Post

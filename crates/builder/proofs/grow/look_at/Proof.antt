@@ -3,16 +3,13 @@
 use native.Mathlib.Omega.{arith}
 use mathlib.Core.Path.{refl, sym, ap, _∙_}
 use lib.Seq.{length-take-le}
-use lib.ListN.{length}
 use borrow.Author.Needs.{needs}
 use Rattle.builder.specs.Trees.{leaf}
-use Rattle.builder.specs.Growing.{Looked, short, isLeaf, isCut}
+use Rattle.builder.specs.Growing.{short, isLeaf, isCut}
 use Rattle.builder.proofs.PartAnswers.{tree-leaf, tree-stands}
 use Rattle.builder.proofs.Looking.{met-few, met-front, met-known, stands-front, stands-within}
 use Rattle.builder.proofs.grow.look_at.Statement.{statement}
 use Rattle.builder.proofs.grow.look_at.Tie as tie
-use Rattle.builder.proofs.grow.look_at.Reads as reads
-use Rattle.builder.proofs.grow.look_at.Lts as lts
 
 add-words : tie.Need-add-words
 add-words c = search needs
@@ -36,7 +33,13 @@ slice-aggregate-choice-of : tie.Need-slice-aggregate-choice-of
 slice-aggregate-choice-of c =
     let k = c .before .before .before in
     let g = k .before .before .before .before .before .before .before .before .before in
-    sym (length-take-le _ _ (omega (arith, met-few (g .pre .0) (k .keep-meeting .ensures), g .pre .1, k .keep-meeting .kept)))
+    sym (length-take-le _ _ (omega (
+      arith,
+      met-few (g .pre .0) (k .keep-meeting .ensures),
+      g .pre .1,
+      k .keep-meeting
+          .kept,
+    )))
 
 choice-of-requires : tie.Need-choice-of-requires
 choice-of-requires c κs =
@@ -54,13 +57,23 @@ add-end : tie.Need-add-end
 add-end c =
     let o = c .before .before .before in
     let g = o .before .before .before .before .before .before .before .before .before .before .before .before .before in
-    omega (arith, stands-within _ _ _ _ _ _ (g .pre .0 .spelt) (sym (o .choice-of .ensures) ∙ c .before .start .given .1) .0, g .good)
+    omega (
+      arith,
+      stands-within _ _ _ _ _ _ (g .pre .0 .spelt) (sym (o .choice-of .ensures) ∙ c .before .start .given
+          .1) .0,
+      g .good,
+    )
 
 mul-store-all : tie.Need-mul-store-all
 mul-store-all c =
     let o = c .before .before .before .before in
     let g = o .before .before .before .before .before .before .before .before .before .before .before .before .before in
-    omega (arith, stands-within _ _ _ _ _ _ (g .pre .0 .spelt) (sym (o .choice-of .ensures) ∙ c .before .before .start .given .1) .0, g .good)
+    omega (
+      arith,
+      stands-within _ _ _ _ _ _ (g .pre .0 .spelt) (sym (o .choice-of .ensures) ∙ c .before .before .start
+          .given .1) .0,
+      g .good,
+    )
 
 sub-store-all : tie.Need-sub-store-all
 sub-store-all c = search needs
@@ -108,7 +121,8 @@ returns-3 c =
     let w = stands-within _ _ _ _ _ _ (g .pre .0 .spelt) chosen in
     isLeaf {count = known .start .given .0 .1 .0} (test .if1 .left) (omega (arith, w .1, g .pre .0 .few))
     (tree-stands _ _ _ _ _ _ _ chosen ∙
-    ap leaf (sym (stands-front _ _ _ _ (w .0) (omega (arith, w .1, g .pre .0 .few, g .pre .1, k .keep-meeting .kept)) (all .store-all .ensures))))
+    ap leaf (sym (stands-front _ _ _ _ (w .0) (omega (arith, w .1, g .pre .0 .few, g .pre .1, k .keep-meeting .kept))
+    (all .store-all .ensures))))
 
 same-length-3 : tie.Need-same-length-3
 same-length-3 c = search needs

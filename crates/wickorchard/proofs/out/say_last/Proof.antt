@@ -1,6 +1,6 @@
 -- `wickorchard::out::say_last` hands on exactly what is due at the end. Assumes nothing.
 use borrow.Author.Needs.{needs}
-use Rattle.wickorchard.proofs.Standing.{said-holds}
+use Rattle.system.proofs.Standing.{said-holds}
 use Rattle.wickorchard.proofs.out.say_last.Statement.{statement}
 use Rattle.wickorchard.proofs.out.say_last.Tie as tie
 

@@ -1,7 +1,7 @@
 -- `wickorchard::serve::answer_got` meets its contract, by what the read gave. Assumes nothing.
 use mathlib.Core.Path.{subst}
 use borrow.Author.Needs.{needs}
-use Rattle.wickorchard.specs.Reads.{Gets}
+use Rattle.system.specs.Reads.{Gets}
 use Rattle.wickorchard.proofs.Turning.{got-by}
 use Rattle.wickorchard.proofs.serve.answer_got.Statement.{statement}
 use Rattle.wickorchard.proofs.serve.answer_got.Tie as tie

@@ -9,7 +9,7 @@ use Rattle.facts.proofs.Counted.{length-map-up, getD-map-up}
 use Rattle.fields.specs.Words.{fieldCount}
 use Rattle.fields.specs.Ranges.{rangesMeet}
 use Rattle.fields.specs.Boxes.{lowOf, highOf, meets}
-use Rattle.builder.specs.Boxes.{boxOf}
+use Rattle.built.specs.Boxes.{boxOf}
 use Rattle.builder.specs.BoxWords.{boxCount, boxWord, boxAt, boxesIn, metBy}
 
 -- the two words of box r in field f

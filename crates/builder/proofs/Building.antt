@@ -17,20 +17,20 @@ use Rattle.rules.specs.Words.{mostRules, ruleCount}
 use Rattle.rules.specs.Good.{listVerdict}
 use Rattle.rules.proofs.Lists.{GoodList}
 use Rattle.trees.specs.Words.{nodeWords, mostNodes, mostPool}
+use Rattle.built.specs.Boxes.{boxesOf}
+use Rattle.built.specs.Layout.{size, pooled, laid}
+use Rattle.built.specs.BuiltTree.{treeOf, treeFits, builtTree, buildVerdict}
+use Rattle.built.proofs.Laying.{length-laid}
+use Rattle.built.proofs.Fitting.{fits-fine-iff}
 use Rattle.builder.specs.declared.build.Built.{Built}
 use Rattle.builder.specs.declared.build.Built.the-variants as built
 use Rattle.builder.specs.declared.grow.Grown.{Grown}
 use Rattle.builder.specs.declared.grow.Grown.the-variants as grown
 use Rattle.builder.specs.declared.grow.Room.{Room}
-use Rattle.builder.specs.Boxes.{boxesOf}
 use Rattle.builder.specs.BoxWords.{boxWords, boxCount}
-use Rattle.builder.specs.Layout.{size, pooled, laid}
-use Rattle.builder.specs.BuiltTree.{treeOf, treeFits, builtTree, buildVerdict}
 use Rattle.builder.specs.Growing.{GrownPart}
 use Rattle.builder.specs.Build.{TreeBuilt}
 use Rattle.builder.specs.BuildSteps.{rootSpot, roomOf, Rooted, BoxesBuilt}
-use Rattle.builder.proofs.Laying.{length-laid}
-use Rattle.builder.proofs.Fitting.{fits-fine-iff}
 use Rattle.builder.proofs.PartAnswers.{refused-says, part-says}
 
 -- the room is within the limits of a tree

@@ -16,14 +16,14 @@ use Rattle.refusals.proofs.Promises.{said-by, fine-by, refused-by, left-written
 use Rattle.rules.specs.Good.{listVerdict}
 use Rattle.trees.specs.Words.{nodeWords, mostNodes, mostPool}
 use Rattle.tree_check.specs.Serves.{Serves}
+use Rattle.built.specs.Layout.{size}
+use Rattle.built.specs.BuiltTree.{builtTree, builtNodes, builtPool, buildVerdict}
+use Rattle.built.specs.FirstUnfit.{FirstUnfit}
+use Rattle.built.proofs.Laying.{length-laid}
+use Rattle.built.proofs.BuiltAccepted.{build-fine-iff, built-serves}
+use Rattle.built.proofs.FirstUnfit.{build-refused-iff}
 use Rattle.builder.specs.declared.build.Built.the-variants.{Refused, Tree}
-use Rattle.builder.specs.Layout.{size}
-use Rattle.builder.specs.BuiltTree.{builtTree, builtNodes, builtPool, buildVerdict}
 use Rattle.builder.specs.Build.{builtValues, TreeBuilt}
-use Rattle.builder.specs.FirstUnfit.{FirstUnfit}
-use Rattle.builder.proofs.Laying.{length-laid}
-use Rattle.builder.proofs.BuiltAccepted.{build-fine-iff, built-serves}
-use Rattle.builder.proofs.FirstUnfit.{build-refused-iff}
 
 module _ (rs : List ℕ) {nodes pool : List ℕ} {n p : ℕ} {nodes′ pool′ : List ℕ}
     (w : TreeBuilt rs nodes pool (Tree n p) nodes′ pool′) where

@@ -10,10 +10,10 @@ use borrow.Author.Tests.{le-leb, lt-leb, eq-eqb, ne-eqb}
 use Rattle.trees.specs.declared.words.Node.{Node}
 use Rattle.trees.specs.declared.words.Node.the-variants as node
 use Rattle.trees.specs.Node.{nodeAt}
+use Rattle.built.specs.Boxes.{meeting}
+use Rattle.built.specs.CutValues.{cutValues, cutCount, chosenField, chosenValue, mostInLeaf, stops}
 use Rattle.builder.specs.declared.choice.Choice.the-variants.{Leaf, Stands, Cut}
 use Rattle.builder.specs.declared.choice.Values.{Values}
-use Rattle.builder.specs.Boxes.{meeting}
-use Rattle.builder.specs.CutValues.{cutValues, cutCount, chosenField, chosenValue, mostInLeaf, stops}
 use Rattle.builder.specs.Choices.{freshChoice, choiceIn, choiceOf}
 use Rattle.builder.specs.ChoiceSteps.{MostFound}
 use Rattle.builder.proofs.Most.{chosen-field, chosen-count, chosen-middle}

@@ -15,8 +15,8 @@ use Rattle.facts.proofs.Steps.{drop-step, drop-end, keep-none}
 use Rattle.facts.proofs.Joined.{has-append}
 use Rattle.facts.proofs.Keeping.{keep-append}
 use Rattle.fields.specs.Words.{fieldCount}
-use Rattle.builder.specs.Boxes.{boxOf}
-use Rattle.builder.specs.CutValues.{endsAt}
+use Rattle.built.specs.Boxes.{boxOf}
+use Rattle.built.specs.CutValues.{endsAt}
 use Rattle.builder.specs.BoxWords.{boxCount, boxWord, boxesIn}
 use Rattle.builder.specs.ChoiceSteps.{endsOf, allEnds}
 use Rattle.builder.proofs.BoxWords.{low-there, high-there}

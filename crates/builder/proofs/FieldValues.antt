@@ -17,14 +17,14 @@ use Rattle.facts.proofs.Filling.{keep-at-most}
 use Rattle.fields.specs.Words.{fieldCount}
 use Rattle.fields.specs.Cuts.{divides}
 use Rattle.fields.proofs.Cuts.{divides-iff}
-use Rattle.builder.specs.Boxes.{meeting}
+use Rattle.built.specs.Boxes.{meeting}
+use Rattle.built.specs.CutValues.{cutsAt, cutValues}
 use Rattle.builder.specs.BoxWords.{boxCount, boxesIn}
-use Rattle.builder.specs.CutValues.{cutsAt, cutValues}
 use Rattle.builder.specs.Sorting.{SortedOnce}
 use Rattle.builder.specs.ChoiceSteps.{allEnds, mostValues, Stored, Met, ValuesFound}
 use Rattle.builder.proofs.BoxWords.{box-count}
 use Rattle.facts.proofs.Places.{has-at}
-use Rattle.builder.proofs.CutValues.{cut-value-iff, cut-values-rise}
+use Rattle.built.proofs.CutValues.{cut-value-iff, cut-values-rise}
 use Rattle.builder.proofs.Ends.{all-ends-at-most, ends-some}
 
 -- the number of a box that meets a box is below the number of boxes

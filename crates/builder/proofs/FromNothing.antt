@@ -10,14 +10,14 @@ use Rattle.facts.proofs.Bools.{sure}
 use Rattle.fields.specs.Cuts.{leftOf, rightOf, leftPart, rightPart}
 use Rattle.fields.proofs.Cuts.{left-divided, right-divided}
 use Rattle.trees.proofs.Nodes.{node-missing}
+use Rattle.built.specs.CutValues.{chosenField, chosenValue, stops}
+use Rattle.built.specs.Trees.{cut, grown}
+use Rattle.built.specs.Layout.{size}
+use Rattle.built.proofs.Chosen.{chosen-divides}
+use Rattle.built.proofs.GrownTrees.{grown-zero, grown-stops, grown-divided}
 use Rattle.builder.specs.declared.choice.Choice.the-variants as choice
-use Rattle.builder.specs.CutValues.{chosenField, chosenValue, stops}
-use Rattle.builder.specs.Trees.{cut, grown}
-use Rattle.builder.specs.Layout.{size}
 use Rattle.builder.specs.Choices.{freshChoice, choiceIn, choiceOf}
 use Rattle.builder.specs.Growing.{grownOn}
-use Rattle.builder.proofs.Chosen.{chosen-divides}
-use Rattle.builder.proofs.GrownTrees.{grown-zero, grown-stops, grown-divided}
 use Rattle.builder.proofs.PartAnswers.{tree-leaf}
 
 module _ (n : ℕ) (boxes : List (List (List ℕ))) where

@@ -1,11 +1,7 @@
--- The laws, by subject: boxes; cut values and the choice; sorting; the tree as a value and its words; growing it; what
--- the build answers.
+-- The laws, by subject: boxes as words; sorting; the choice; growing the tree; what the build answers.
 pub mod BoxWords
 pub mod Sides
-pub mod Meeting
 pub mod Narrower
-pub mod CutValues
-pub mod Chosen
 pub mod Sorted
 pub mod Stepping
 pub mod Merging
@@ -18,23 +14,11 @@ pub mod Ends
 pub mod FieldValues
 pub mod Most
 pub mod Choices
-pub mod GrownTrees
-pub mod Laying
-pub mod Fitting
-pub mod Lying
-pub mod Covering
-pub mod Passing
-pub mod Counting
-pub mod BuiltSpelt
-pub mod BuiltAccepted
-pub mod FitsInTurn
-pub mod FirstUnfit
-pub mod FirstNode
 pub mod PartAnswers
-pub mod PartWords
 pub mod PartsGrown
 pub mod Looking
 pub mod Seeing
+pub mod SeenParts
 pub mod CountingUp
 pub mod FromNothing
 pub mod Rooting

@@ -18,18 +18,18 @@ use Rattle.trees.specs.Words.{leafMark}
 use Rattle.trees.specs.Node.{nodeAt}
 use Rattle.trees.specs.Spelt.{Spelt}
 use Rattle.trees.proofs.Nodes.{leaf-is, cut-is}
+use Rattle.built.specs.Boxes.{meeting}
+use Rattle.built.specs.CutValues.{chosenField, chosenValue, stops}
+use Rattle.built.proofs.Meeting.{meeting-at-most}
+use Rattle.built.proofs.Chosen.{chosen-there}
 use Rattle.builder.specs.declared.choice.Choice.the-variants as choice
 use Rattle.builder.specs.declared.grow.Spot.{Spot}
 use Rattle.builder.specs.declared.grow.Room.{Room}
-use Rattle.builder.specs.Boxes.{meeting}
 use Rattle.builder.specs.BoxWords.{boxesIn, metBy}
-use Rattle.builder.specs.CutValues.{chosenField, chosenValue, stops}
 use Rattle.builder.specs.Choices.{freshChoice, choiceIn, choiceOf}
 use Rattle.builder.specs.ChoiceSteps.{Met}
 use Rattle.builder.specs.Growing.{Growable}
 use Rattle.builder.proofs.BoxWords.{box-count}
-use Rattle.builder.proofs.Meeting.{meeting-at-most}
-use Rattle.builder.proofs.Chosen.{chosen-there}
 
 -- ---- the numbers that meet the box
 
@@ -65,15 +65,13 @@ module _ {ws above standing kept : List ℕ} {b : List (List ℕ)} {spot : Spot}
 
 -- the entries of a leaf that stands, stored from the front on
 pub stands-front :
-    (kept : List ℕ) (start count : ℕ)
-    (found : List ℕ) {after : List ℕ} → start + count ≤ length kept → count ≤ length found →
-    after ≡ sets found 0 (take (start + count - start) (drop start kept)) →
+    (kept : List ℕ) (start count : ℕ) (found : List ℕ) {after : List ℕ} → start + count ≤ length kept →
+    count ≤ length found → after ≡ sets found 0 (take count (drop start kept)) →
     take count after ≡ take count (drop start kept)
 stands-front kept start count found h room e =
-    let count-is : start + count - start ≡ count = omega arith in
     let size : length (take count (drop start kept)) ≡ count =
     length-take-le count (drop start kept) (omega (arith, length-drop start kept)) in
-    rw (e, count-is, sets-front found (take count (drop start kept)) (omega (arith, size)))
+    rw (e, sets-front found (take count (drop start kept)) (omega (arith, size)))
     (written-front (take count (drop start kept)) found count size)
 
 -- ---- what the choice is of

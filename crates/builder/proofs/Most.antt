@@ -11,10 +11,10 @@ use borrow.Author.Tests.{ltb-true, ltb-false, le-ltb}
 use Rattle.facts.proofs.Bools.{sure, fails}
 use Rattle.facts.proofs.Cases.{Order, below, same, above, order}
 use Rattle.facts.proofs.Lowest.{lowest-unique}
+use Rattle.built.specs.CutValues.{cutValues, cutCount, hasMost, chosenField, chosenValue}
+use Rattle.built.proofs.Chosen.{most-at, most-of}
 use Rattle.builder.specs.declared.choice.Values.{Values}
-use Rattle.builder.specs.CutValues.{cutValues, cutCount, hasMost, chosenField, chosenValue}
 use Rattle.builder.specs.ChoiceSteps.{ValuesFound, ValuesSeen, found, few, HasMost, moreOf, MostFound}
-use Rattle.builder.proofs.Chosen.{most-at, most-of}
 
 -- of one field the first has the most
 most-of-one : (count : ℕ → ℕ) → HasMost count 1 0

@@ -17,7 +17,7 @@ use Rattle.fields.specs.Boxes.{Pairs, meets}
 use Rattle.fields.specs.Cuts.{leftPart, rightPart}
 use Rattle.fields.proofs.Boxes.{overlap-iff}
 use Rattle.fields.proofs.Parts.{Within, left-within, right-within}
-use Rattle.builder.specs.Boxes.{meeting}
+use Rattle.built.specs.Boxes.{meeting}
 use Rattle.builder.specs.BoxWords.{boxCount, boxesIn, metBy}
 use Rattle.builder.proofs.BoxWords.{box-count}
 

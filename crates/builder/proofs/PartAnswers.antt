@@ -12,15 +12,15 @@ use Rattle.fields.specs.Cuts.{leftPart, rightPart}
 use Rattle.trees.specs.declared.words.Node.{Node}
 use Rattle.trees.specs.declared.words.Node.the-variants as node
 use Rattle.trees.specs.Node.{nodeAt}
+use Rattle.built.specs.Boxes.{meeting}
+use Rattle.built.specs.Trees.{Tree, leaf, cut}
+use Rattle.built.specs.Layout.{size, pooled}
 use Rattle.builder.specs.declared.choice.Choice.{Choice}
 use Rattle.builder.specs.declared.choice.Choice.the-variants as choice
 use Rattle.builder.specs.declared.grow.Grown.{Grown}
 use Rattle.builder.specs.declared.grow.Grown.the-variants as grown
 use Rattle.builder.specs.declared.grow.Spot.{Spot}
 use Rattle.builder.specs.declared.grow.Room.{Room}
-use Rattle.builder.specs.Boxes.{meeting}
-use Rattle.builder.specs.Trees.{Tree, leaf, cut}
-use Rattle.builder.specs.Layout.{size, pooled}
 use Rattle.builder.specs.Choices.{freshChoice, choiceIn, choiceOf}
 use Rattle.builder.specs.Growing.{grownOn, grownSaid, fitsAt, GrownPart}
 

@@ -11,15 +11,15 @@ use Rattle.refusals.specs.declared.Refusal.{Refusal}
 use Rattle.refusals.specs.declared.Verdict.{Verdict}
 use Rattle.refusals.specs.declared.Verdict.the-variants as verdict
 use Rattle.trees.specs.Words.{nodeWords, leafMark}
+use Rattle.built.specs.Trees.{Tree, leaf, cut}
+use Rattle.built.specs.Layout.{size, pooled, laid}
+use Rattle.built.proofs.FirstNode.{left-refuses, right-decides, leaf-fits}
+use Rattle.built.proofs.PartWords.{cut-words, cut-entries}
 use Rattle.builder.specs.declared.grow.Grown.{Grown}
 use Rattle.builder.specs.declared.grow.Grown.the-variants as grown
 use Rattle.builder.specs.declared.grow.Spot.{Spot}
 use Rattle.builder.specs.declared.grow.Room.{Room}
-use Rattle.builder.specs.Trees.{Tree, leaf, cut}
-use Rattle.builder.specs.Layout.{size, pooled, laid}
 use Rattle.builder.specs.Growing.{leftSpot, rightSpot, grownSaid, fitsAt, GrownPart}
-use Rattle.builder.proofs.FirstNode.{left-refuses, right-decides, leaf-fits}
-use Rattle.builder.proofs.PartWords.{cut-words, cut-entries}
 use Rattle.builder.proofs.PartAnswers.{part-refused, refused-says, part-says}
 
 module _ (l : List ℕ) (spot : Spot) (room : Room) (there : (spot .node + 1) * nodeWords ≤ room .nodes)

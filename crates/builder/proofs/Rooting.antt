@@ -15,11 +15,11 @@ use Rattle.fields.proofs.Root.{root-pairs}
 use Rattle.rules.specs.Words.{mostRules}
 use Rattle.trees.specs.Spelt.{Spelt, countsBelow}
 use Rattle.tree_check.specs.Whole.{mostCuts}
+use Rattle.built.specs.BuiltTree.{treeOf}
 use Rattle.builder.specs.declared.grow.Grown.{Grown}
 use Rattle.builder.specs.declared.grow.Spot.{Spot}
 use Rattle.builder.specs.declared.grow.Room.{Room}
 use Rattle.builder.specs.BoxWords.{boxCount, boxesIn}
-use Rattle.builder.specs.BuiltTree.{treeOf}
 use Rattle.builder.specs.Growing.{treeAt, GrownPart, Growable}
 use Rattle.builder.specs.BuildSteps.{rootSpot, Rooted}
 use Rattle.builder.proofs.Narrower.{meeting-keep}

@@ -23,7 +23,7 @@ use Rattle.rules.specs.Bounds.{endsOf}
 use Rattle.rules.proofs.Lists.{fine-iff-good}
 use Rattle.rules.proofs.Meaning.{box-ends}
 use Rattle.rules.proofs.Ends.{ends-of-good}
-use Rattle.builder.specs.Boxes.{boxesOf}
+use Rattle.built.specs.Boxes.{boxesOf}
 use Rattle.builder.specs.BoxWords.{boxWords, boxCount, boxWord, boxAt, boxesIn, BoxesFilled}
 use Rattle.builder.proofs.BoxWords.{sideWords, box-at-size, box-at-ends}
 

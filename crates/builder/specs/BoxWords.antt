@@ -15,7 +15,7 @@ use Rattle.facts.specs.Lists.{upFrom}
 use Rattle.fields.specs.Words.{fieldCount}
 use Rattle.fields.specs.Boxes.{meets}
 use Rattle.rules.specs.Words.{ruleCount}
-use Rattle.builder.specs.Boxes.{boxOf, boxesOf}
+use Rattle.built.specs.Boxes.{boxOf, boxesOf}
 
 abbrev pub boxWords : ℕ
 boxWords = fieldCount * 2

@@ -7,10 +7,10 @@ use mathlib.Core.List.{List, [], _∷_}
 use lib.ListN.{length}
 use Rattle.refusals.specs.Paper.{Paper, success, onPaper}
 use Rattle.refusals.specs.Promises.{Writes}
+use Rattle.built.specs.Layout.{size}
+use Rattle.built.specs.BuiltTree.{builtTree, builtNodes, builtPool, buildVerdict}
 use Rattle.builder.specs.declared.build.Built.{Built}
 use Rattle.builder.specs.declared.build.Built.the-variants as built
-use Rattle.builder.specs.Layout.{size}
-use Rattle.builder.specs.BuiltTree.{builtTree, builtNodes, builtPool, buildVerdict}
 
 abbrev pub paper : Built → Paper
 paper (built.Refused why) = onPaper why

@@ -10,12 +10,12 @@ use Rattle.refusals.specs.Promises.{Writes}
 use Rattle.rules.specs.Words.{mostRules}
 use Rattle.trees.specs.Words.{nodeWords, mostNodes, mostPool}
 use Rattle.tree_check.specs.Whole.{mostCuts}
+use Rattle.built.specs.Layout.{size, pooled, laid}
+use Rattle.built.specs.BuiltTree.{treeOf, treeFits}
 use Rattle.builder.specs.declared.build.Built.{Built}
 use Rattle.builder.specs.declared.grow.Spot.{Spot}
 use Rattle.builder.specs.declared.grow.Room.{Room}
 use Rattle.builder.specs.BoxWords.{boxCount}
-use Rattle.builder.specs.Layout.{size, pooled, laid}
-use Rattle.builder.specs.BuiltTree.{treeOf, treeFits}
 use Rattle.builder.specs.Build.{paper}
 
 abbrev pub rootSpot : Spot

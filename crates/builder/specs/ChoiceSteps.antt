@@ -18,8 +18,8 @@ use lib.Dec.{ltb, eqb}
 use lib.Seq.{sets}
 use Rattle.fields.specs.Words.{fieldCount}
 use Rattle.rules.specs.Words.{mostRules}
+use Rattle.built.specs.Boxes.{meeting}
 use Rattle.builder.specs.declared.choice.Values.{Values}
-use Rattle.builder.specs.Boxes.{meeting}
 use Rattle.builder.specs.BoxWords.{boxWord, boxesIn}
 
 unfoldable pub endsOf : ℕ → ℕ → List ℕ

@@ -9,9 +9,9 @@ use lib.Dec.{eqb}
 use Rattle.trees.specs.declared.words.Node.{Node}
 use Rattle.trees.specs.declared.words.Node.the-variants as node
 use Rattle.trees.specs.Node.{nodeAt}
+use Rattle.built.specs.CutValues.{chosenField, chosenValue, stops}
 use Rattle.builder.specs.declared.choice.Choice.{Choice}
 use Rattle.builder.specs.declared.choice.Choice.the-variants as choice
-use Rattle.builder.specs.CutValues.{chosenField, chosenValue, stops}
 
 unfoldable pub freshChoice : ℕ → ℕ → List (List (List ℕ)) → List (List ℕ) → Choice
 freshChoice k n boxes b =

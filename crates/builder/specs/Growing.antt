@@ -30,6 +30,9 @@ use Rattle.rules.specs.Words.{mostRules}
 use Rattle.trees.specs.Words.{nodeWords, mostNodes, mostPool}
 use Rattle.trees.specs.Spelt.{Spelt}
 use Rattle.tree_check.specs.Whole.{mostCuts}
+use Rattle.built.specs.Boxes.{meeting}
+use Rattle.built.specs.Trees.{Tree, leaf, cut}
+use Rattle.built.specs.Layout.{size, pooled, laid, fits}
 use Rattle.builder.specs.declared.choice.Choice.{Choice}
 use Rattle.builder.specs.declared.choice.Choice.the-variants as choice
 use Rattle.builder.specs.declared.grow.Grown.{Grown}
@@ -38,10 +41,7 @@ use Rattle.builder.specs.declared.grow.Look.{Look}
 use Rattle.builder.specs.declared.grow.Look.the-variants as look
 use Rattle.builder.specs.declared.grow.Spot.{Spot}
 use Rattle.builder.specs.declared.grow.Room.{Room}
-use Rattle.builder.specs.Boxes.{meeting}
 use Rattle.builder.specs.BoxWords.{boxCount, boxesIn, metBy}
-use Rattle.builder.specs.Trees.{Tree, leaf, cut}
-use Rattle.builder.specs.Layout.{size, pooled, laid, fits}
 use Rattle.builder.specs.Choices.{choiceOf}
 
 abbrev pub grownBy : Choice → List ℕ → List ℕ → (ℕ → ℕ → Tree) → Tree

@@ -10,15 +10,15 @@ use lent::wide;
 use rules::words::MOST_RULES;
 use trees::words::Node;
 use trees::words::node_at;
-ghost use Prim.Native.Nat.{_+_, _^_, _≤_, _<_};
+ghost use Prim.Native.Nat.{_+_, _/_, _^_, _≤_, _<_};
 ghost use mathlib.Core.List.{[], _∷_};
 ghost use mathlib.Core.Path.{_≡_};
 ghost use lib.ListN.{length};
 ghost use Rattle.facts.specs.Lists.{keep};
 ghost use Rattle.fields.specs.Words.{fieldCount};
 ghost use Rattle.fields.specs.Cuts.{divides};
+ghost use Rattle.built.specs.CutValues.{cutValues};
 ghost use Rattle.builder.specs.BoxWords.{boxesIn};
-ghost use Rattle.builder.specs.CutValues.{cutValues};
 ghost use Rattle.builder.specs.Choices.{choiceOf, freshChoice};
 ghost use Rattle.builder.specs.ChoiceSteps.{endsOf, allEnds, mostValues, Stored};
 ghost use Rattle.builder.specs.ChoiceSteps.{Met, ValuesSeen, moreOf, MostFound};
@@ -158,12 +158,19 @@ fn values_of(
         };
     }
     let count = sort_once(&mut values[..n], spare);
-    let middle = values[count / 2];
+    let middle = values[middle_place(count)];
     Values {
         field: f,
         count,
         middle,
     }
+}
+
+// The place of the middle one of so many values: of two in the middle, that of the higher.
+fn middle_place(count: usize) -> usize
+    ensures { λ r. ⌜ r ≡ count / 2 ⌝ }
+{
+    count / 2
 }
 
 // Stores the ends of the boxes `met` in field `f` that divide a box, and says how many there are.

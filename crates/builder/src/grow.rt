@@ -14,12 +14,12 @@ use trees::words::NODE_WORDS;
 ghost use Prim.Native.Nat.{_+_, _*_, _<_, _≤_};
 ghost use mathlib.Core.List.{[], _∷_};
 ghost use mathlib.Core.Path.{_≡_};
-ghost use lib.ListN.{length};
+ghost use lib.ListN.{length, take, drop};
 ghost use lib.Seq.{sets};
 ghost use Rattle.fields.specs.Words.{fieldCount};
 ghost use Rattle.rules.specs.Words.{mostRules};
 ghost use Rattle.trees.specs.Words.{nodeWords, mostNodes};
-ghost use Rattle.builder.specs.Trees.{leaf};
+ghost use Rattle.built.specs.Trees.{leaf};
 ghost use Rattle.builder.specs.Growing.{treeAt, GrownPart, Growable, LeafFits, Looked, leftSpot, rightSpot};
 
 // What growing a part answers: a refusal; or the node after it, and how many entries there are then.
@@ -140,8 +140,7 @@ fn look_at(
     match choice_of(boxes, &met[..count], standing, bounds, at, spot.cuts) {
         Choice::Leaf => Look::Leaf { count },
         Choice::Stands { start, count: long } => {
-            let end = start + long;
-            store_all(met, 0, &kept[start..end]);
+            copy_entries(kept, start, long, met);
             Look::Leaf { count: long }
         }
         Choice::Cut { field, value } => Look::Cut {
@@ -150,6 +149,15 @@ fn look_at(
             count,
         },
     }
+}
+
+// Copies the entries of a leaf that stands, `count` of them from `start` on, to the front of `met`.
+fn copy_entries(kept: &[u32], start: usize, count: usize, met: &mut [u32])
+    requires { ⌜ start + count ≤ length (now kept) ⌝ }
+    ensures { λ _. ⌜ now (met .exit) ≡ sets (now (met .entry)) 0 (take count (drop start (now (kept .entry)))) ⌝ }
+{
+    let end = start + count;
+    store_all(met, 0, &kept[start..end]);
 }
 
 // Where the left part of a cut begins.

@@ -5,7 +5,7 @@
 //   sort      numbers sorted, each once
 //   choice    what a node is: a leaf, or a cut, and where it is cut
 //   grow      the recursion: a node, its left part, its right part
-// Rests on facts, lent, refusals, fields, rules, trees and tree_check.
+// Rests on facts, lent, refusals, fields, rules, trees, tree_check and built.
 pub mod boxes;
 pub mod build;
 pub mod choice;

@@ -2,6 +2,8 @@
 use Rattle.console.proofs.Pieces.{answers-pieces}
 use Rattle.console.proofs.Whole.{whole-input}
 use Rattle.policy.proofs.Output.{output-by-list, output-refused, accepted-iff}
+use Rattle.policy.proofs.CompiledSize.{text-short}
+use Rattle.policy.proofs.CompiledServes.{compiled-serves}
 use Rattle.claims.specs.Beyond.{Program}
 
 pub program-claim : Program
@@ -12,4 +14,5 @@ program-claim =
       silent = accepted-iff;
       pieces = answers-pieces;
       whole = whole-input;
+      compiled = λ rs e. (compiled-serves rs e, text-short rs e);
     }

@@ -21,8 +21,8 @@ use Rattle.tree_file.specs.TreeText.{Tree, tree, treeIn}
 use Rattle.tree_file.specs.Reading.{valuesIn, nodesIn, poolIn, readVerdict}
 use Rattle.tree_file.proofs.RoundTrips.{spelling-of-read}
 use Rattle.tree_file.proofs.ReadAnswers.{read-apart as tree-apart}
-use Rattle.builder.specs.BuiltTree.{builtTree}
-use Rattle.builder.proofs.Laying.{length-laid}
+use Rattle.built.specs.BuiltTree.{builtTree}
+use Rattle.built.proofs.Laying.{length-laid}
 use Rattle.builder.proofs.Unique.{built-apart}
 use Rattle.policy.proofs.Listing.{words-whole}
 use Rattle.policy.proofs.Unique as policy
@@ -61,6 +61,7 @@ code-claim = (
   in-policy.tree.take_tree.Met.met,
   in-policy.serving.who_serves.Met.met,
   in-policy.line.verdict_line.Met.met,
+  in-policy.compiled.compile_text.Met.met,
   exports.line.wick_rule_check.Met.met,
   exports.line.wick_line_all.Met.met,
   exports.line.wick_line_first.Met.met,
@@ -117,4 +118,5 @@ calls-claim =
         writes-only policy.taken-apart (λ r a p. p .1 .0) (λ e. refl),
         writes-only policy.taken-apart (λ r a p. p .1 .1) (λ e. refl),
       );
+      compile-text = λ rs w. writes-only written-apart (λ r a p. p) (λ e. refl);
     }

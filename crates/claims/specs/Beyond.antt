@@ -1,17 +1,19 @@
--- Beyond the scope: what the program writes, from the bytes of its two files and of its input. A file is its bytes; or
--- none, where it was not read to its end. Statements only.
-use Prim.Native.Nat.{ℕ}
+-- Beyond the scope: what the program writes, from the bytes of its two files and of its input; and the file that a list
+-- is compiled into. A file is its bytes; or none, where it was not read to its end. Statements only.
+use Prim.Native.Nat.{ℕ, _≤_}
 use mathlib.Core.Logic.{_↔_}
 use mathlib.Core.Path.{_≡_}
 use mathlib.Core.List.{List, _++_}
-use mathlib.Core.Option.{Option}
+use mathlib.Core.Option.{Option, some}
+use lib.ListN.{length}
 use Rattle.refusals.specs.declared.Refusal.{Refusal}
 use Rattle.refusals.specs.declared.Verdict.the-variants.{Fine, Refused}
 use Rattle.text.specs.Text.{good, refused}
 use Rattle.console.specs.declared.gather.Gathering.{Gathering}
 use Rattle.console.specs.Gathered.{begun, after, answers, lastReply, inputReplies}
-use Rattle.policy.specs.Files.{listIn, treeOf}
+use Rattle.policy.specs.Files.{listIn, treeOf, mostFile}
 use Rattle.policy.specs.Output.{servingVerdict, byList, verdictLine, output, TreeServes}
+use Rattle.policy.specs.Compiled.{largestBuild, builtText}
 
 pub record Program : Type 0 where
   -- a rule file that is refused has its line written, and nothing else
@@ -31,3 +33,7 @@ pub record Program : Type 0 where
   pub whole :
       (answer : List ℕ → List ℕ) (s : List ℕ) →
       answers answer begun s ++ lastReply (after begun s) ≡ inputReplies answer s
+  -- the text of a tree that is built, as a tree file, may serve its list, and the program can read all of it
+  pub compiled :
+      (rs : List ℕ) → largestBuild rs ≡ Fine →
+      TreeServes rs (some (builtText rs)) × (length (builtText rs) ≤ mostFile)

@@ -12,11 +12,11 @@ use Rattle.refusals.specs.declared.Verdict.the-variants.{Fine}
 use Rattle.rules.specs.Good.{listVerdict}
 use Rattle.trees.specs.Words.{nodeWords, mostNodes, mostPool}
 use Rattle.tree_check.specs.Serves.{Serves}
+use Rattle.built.specs.Layout.{size}
+use Rattle.built.specs.BuiltTree.{builtTree, builtNodes, builtPool}
+use Rattle.built.specs.FirstUnfit.{FirstUnfit}
 use Rattle.builder.specs.declared.build.Built.the-variants.{Refused, Tree}
-use Rattle.builder.specs.Layout.{size}
-use Rattle.builder.specs.BuiltTree.{builtTree, builtNodes, builtPool}
 use Rattle.builder.specs.Build.{TreeBuilt}
-use Rattle.builder.specs.FirstUnfit.{FirstUnfit}
 
 pub record Compiler : Type 0 where
   -- it completes exactly where the list is good, and the words of its tree fit in what is lent and in a tree's limits

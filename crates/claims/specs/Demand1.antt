@@ -35,10 +35,10 @@ Code M =
     in-rule-file.write.rules_write.Statement.statement M × in-rule-file.read.rules_read.Statement.statement M ×
     in-tree-file.write.tree_write.Statement.statement M × in-tree-file.read.tree_read.Statement.statement M ×
     in-builder.build.build.Statement.statement M × in-console.reply.reply.Statement.statement M ×
-    in-console.feed.feed.Statement.statement M ×
-    in-console.feed.last_reply.Statement.statement M × in-policy.list.take_list.Statement.statement M ×
-    in-policy.tree.take_tree.Statement.statement M × in-policy.serving.who_serves.Statement.statement M ×
-    in-policy.line.verdict_line.Statement.statement M × exports.line.wick_rule_check.Statement.statement M ×
+    in-console.feed.feed.Statement.statement M × in-console.feed.last_reply.Statement.statement M ×
+    in-policy.list.take_list.Statement.statement M × in-policy.tree.take_tree.Statement.statement M ×
+    in-policy.serving.who_serves.Statement.statement M × in-policy.line.verdict_line.Statement.statement M ×
+    in-policy.compiled.compile_text.Statement.statement M × exports.line.wick_rule_check.Statement.statement M ×
     exports.line.wick_line_all.Statement.statement M × exports.line.wick_line_first.Statement.statement M ×
     exports.line.wick_scan_all.Statement.statement M × exports.line.wick_scan_first.Statement.statement M ×
     exports.tree.wick_tree_all.Statement.statement M × exports.tree.wick_tree_first.Statement.statement M ×
@@ -74,3 +74,4 @@ pub record Calls : Type 0 where
       (f : Option (List ℕ)) (w : List ℕ) → WritesOnly w (policy.TakeList.ListTaken f w) policy.TakeList.paper (value 0)
   pub take-tree : (f : Option (List ℕ)) (ns es : List ℕ) →
       WritesBoth ns es (policy.TakeTree.TreeTaken f ns es) policy.TakeTree.paper (value 0) (value 1)
+  pub compile-text : (rs w : List ℕ) → WritesOnly w (policy.Compiled.TextCompiled rs w) text.Said.paper (value 0)

@@ -14,10 +14,10 @@ use Rattle.fields.specs.Cuts.{divides, leftOf, rightOf}
 use Rattle.fields.proofs.Cuts.{divides-iff}
 use Rattle.fields.proofs.Cutting.{pairs-left, pairs-right, left-inside, right-inside, full-left, full-right}
 use Rattle.fields.proofs.Root.{root-ends, root-pairs, root-full}
-use Rattle.builder.specs.Trees.{Tree}
-use Rattle.builder.specs.Layout.{size, pooled, laid}
-use Rattle.builder.proofs.Laying.{size-cut, pooled-leaf, length-pooled, laid-leaf, laid-cut}
-use Rattle.builder.proofs.Covering.{Covers, byLeaf, byCut}
+use Rattle.built.specs.Trees.{Tree}
+use Rattle.built.specs.Layout.{size, pooled, laid}
+use Rattle.built.proofs.Laying.{size-cut, pooled-leaf, length-pooled, laid-leaf, laid-cut}
+use Rattle.built.proofs.Covering.{Covers, byLeaf, byCut}
 use Rattle.text.specs.Line.{EachUnder}
 use Rattle.text.proofs.Below.{below-append, below-at}
 

@@ -9,10 +9,10 @@ use Rattle.refusals.specs.declared.Verdict.the-variants.{Fine}
 use Rattle.rules.specs.Words.{ruleCount}
 use Rattle.trees.specs.Words.{nodeWords, mostNodes, mostPool}
 use Rattle.trees.proofs.Sizes.{sizes-fine-iff}
-use Rattle.builder.specs.BuiltTree.{builtTree, builtNodes, builtPool}
-use Rattle.builder.proofs.Laying.{length-laid}
-use Rattle.builder.proofs.Covering.{built-covers}
-use Rattle.builder.proofs.BuiltAccepted.{built-serves}
+use Rattle.built.specs.BuiltTree.{builtTree, builtNodes, builtPool}
+use Rattle.built.proofs.Laying.{length-laid}
+use Rattle.built.proofs.Covering.{built-covers}
+use Rattle.built.proofs.BuiltAccepted.{built-serves}
 use Rattle.text.specs.Line.{EachUnder}
 use Rattle.text.specs.Text.{good}
 use Rattle.tree_file.specs.TreeText.{tree}

@@ -13,12 +13,12 @@ use Rattle.refusals.proofs.Order.{then-fine, then-refused, room-fine-iff}
 use Rattle.rules.specs.Words.{mostRules, ruleCount}
 use Rattle.trees.specs.Words.{mostNodes, nodeCount}
 use Rattle.trees.proofs.Sizes.{sizes-fine-iff}
-use Rattle.builder.specs.Trees.{Tree, cut}
-use Rattle.builder.specs.Layout.{size, pooled}
-use Rattle.builder.specs.BuiltTree.{builtTree, builtNodes, builtPool}
-use Rattle.builder.proofs.Laying.{size-leaf, size-cut, pooled-leaf, length-pooled, length-laid}
-use Rattle.builder.proofs.Lying.{Lies, aLeaf, aCut, laid-lies}
-use Rattle.builder.proofs.Covering.{ListsRules, Covers, byLeaf, byCut, built-covers}
+use Rattle.built.specs.Trees.{Tree, cut}
+use Rattle.built.specs.Layout.{size, pooled}
+use Rattle.built.specs.BuiltTree.{builtTree, builtNodes, builtPool}
+use Rattle.built.proofs.Laying.{size-leaf, size-cut, pooled-leaf, length-pooled, length-laid}
+use Rattle.built.proofs.Lying.{Lies, aLeaf, aCut, laid-lies}
+use Rattle.built.proofs.Covering.{ListsRules, Covers, byLeaf, byCut, built-covers}
 use Rattle.text.specs.Words.{tab, cutWord, leafWord, fourTabs}
 use Rattle.text.specs.Line.{printFields, printLine, EachUnder}
 use Rattle.text.specs.Text.{unlines}

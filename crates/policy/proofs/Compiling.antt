@@ -14,13 +14,13 @@ use Rattle.rules.specs.Words.{ruleCount}
 use Rattle.rules.proofs.Lists.{fine-iff-good}
 use Rattle.trees.specs.Words.{nodeWords, mostNodes, mostPool}
 use Rattle.tree_check.proofs.Accepts.{accepted}
+use Rattle.built.specs.Layout.{size}
+use Rattle.built.specs.BuiltTree.{builtTree, builtNodes, builtPool, buildVerdict}
+use Rattle.built.proofs.Laying.{length-laid}
+use Rattle.built.proofs.BuiltAccepted.{built-accepted}
 use Rattle.builder.specs.declared.build.Built.{Built}
 use Rattle.builder.specs.declared.build.Built.the-variants as built
-use Rattle.builder.specs.Layout.{size}
-use Rattle.builder.specs.BuiltTree.{builtTree, builtNodes, builtPool, buildVerdict}
 use Rattle.builder.specs.Build as build
-use Rattle.builder.proofs.Laying.{length-laid}
-use Rattle.builder.proofs.BuiltAccepted.{built-accepted}
 use Rattle.text.specs.declared.put.Written.{Written}
 use Rattle.text.specs.declared.put.Written.the-variants.{Refused}
 use Rattle.tree_file.specs.TreeLines.{Spelling}

@@ -11,7 +11,7 @@ use Rattle.refusals.specs.Order.{roomVerdict, _then_}
 use Rattle.refusals.specs.Promises.{Writes}
 use Rattle.rules.specs.Words.{ruleCount}
 use Rattle.trees.specs.Words.{nodeWords, mostNodes, mostPool}
-use Rattle.builder.specs.BuiltTree.{builtNodes, builtPool, buildVerdict}
+use Rattle.built.specs.BuiltTree.{builtNodes, builtPool, buildVerdict}
 use Rattle.text.specs.declared.put.Written.{Written}
 use Rattle.text.specs.Said.{paper}
 use Rattle.tree_file.specs.TreeLines.{treeText}

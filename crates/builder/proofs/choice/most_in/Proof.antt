@@ -6,8 +6,8 @@ use mathlib.Core.Path.{_≡_, refl, _∙_}
 use lib.ListN.{length}
 use borrow.Author.Needs.{needs}
 use Rattle.fields.specs.Words.{fieldCount}
+use Rattle.built.specs.CutValues.{cutValues}
 use Rattle.builder.specs.BoxWords.{boxesIn}
-use Rattle.builder.specs.CutValues.{cutValues}
 use Rattle.builder.specs.ChoiceSteps.{MostFound}
 use Rattle.builder.proofs.Most.{most-first, most-step}
 use Rattle.builder.proofs.choice.most_in.Statement.{statement}

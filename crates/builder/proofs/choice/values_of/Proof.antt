@@ -52,18 +52,23 @@ sort-once-requires c κs =
     let e = c .before .before .before .before .before in
     omega (arith, lent-few e, room-left e .0, e .before .before .before .before .before .before .pre .3)
 
+middle-place-requires : tie.Need-middle-place-requires
+middle-place-requires c κs = tt
+
 mul-middle : tie.Need-mul-middle
-mul-middle c = omega (arith, sorted-few (c .before .before .before .before))
+mul-middle c = omega (arith, c .middle-place .ensures, sorted-few (c .before .before .before .before .before))
 
 slice-read-middle : tie.Need-slice-read-middle
 slice-read-middle c =
-    let s = c .before .before .before .before .before in
+    let place = c .before in
+    let s = place .before .before .before .before .before in
     let e = s .before .before .before .before .before .before in
     let sorted = s .sort-once .last .0 in
     let n = e .store-ends .result in
     let after = e .store-ends .last .1 .1 .1 .1 .0 in
     omega (
       arith,
+      place .middle-place .ensures,
       sorted-few s,
       room-left e .0,
       room-left e .1,
@@ -96,11 +101,13 @@ returns c =
 
 returns-2 : tie.Need-returns-2
 returns-2 c =
-    let e = c .before .before .before .before .before .before .before .before .before .before .before in
+    let place = c .before in
+    let s = place .before .before .before .before .before in
+    let e = s .before .before .before .before .before .before in
     let start = e .before .before .before .before .before .before in
-    found
-    (values-found (start .pre .0) _ (e .store-ends .ensures) (start .pre .2) (start .pre .1) _
-    (c .before .before .before .before .before .sort-once .ensures))
+    rw (place .middle-place .ensures)
+    (found
+    (values-found (start .pre .0) _ (e .store-ends .ensures) (start .pre .2) (start .pre .1) _ (s .sort-once .ensures)))
 
 pub values-of-spec : {M : Type 1} → statement M
 values-of-spec =
@@ -112,6 +119,7 @@ values-of-spec =
     slice-relend-prefix-sort-once
     slice-aggregate-sort-once
     sort-once-requires
+    middle-place-requires
     mul-middle
     slice-read-middle
     same-length-2

@@ -1,7 +1,7 @@
 -- `builder::grow::leaf_part` meets its contract: entries that do not fit are refused, others are stored behind the
 -- leaf's words. Assumes nothing.
 use borrow.Author.Needs.{needs}
-use Rattle.builder.proofs.FirstNode.{entries-short}
+use Rattle.built.proofs.FirstNode.{entries-short}
 use Rattle.builder.proofs.PartAnswers.{part-refused}
 use Rattle.builder.proofs.PartsGrown.{leaf-grown}
 use Rattle.builder.proofs.grow.leaf_part.Statement.{statement}

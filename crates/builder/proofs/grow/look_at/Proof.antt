@@ -4,7 +4,7 @@ use native.Mathlib.Omega.{arith}
 use mathlib.Core.Path.{refl, sym, ap, _∙_}
 use lib.Seq.{length-take-le}
 use borrow.Author.Needs.{needs}
-use Rattle.builder.specs.Trees.{leaf}
+use Rattle.built.specs.Trees.{leaf}
 use Rattle.builder.specs.Growing.{short, isLeaf, isCut}
 use Rattle.builder.proofs.PartAnswers.{tree-leaf, tree-stands}
 use Rattle.builder.proofs.Looking.{met-few, met-front, met-known, stands-front, stands-within}
@@ -53,42 +53,12 @@ enum-told c = search needs
 enum-known-start : tie.Need-enum-known-start
 enum-known-start c = search needs
 
-add-end : tie.Need-add-end
-add-end c =
-    let o = c .before .before .before in
-    let g = o .before .before .before .before .before .before .before .before .before .before .before .before .before in
-    omega (
-      arith,
-      stands-within _ _ _ _ _ _ (g .pre .0 .spelt) (sym (o .choice-of .ensures) ∙ c .before .start .given
-          .1) .0,
-      g .good,
-    )
-
-mul-store-all : tie.Need-mul-store-all
-mul-store-all c =
+copy-entries-requires : tie.Need-copy-entries-requires
+copy-entries-requires c κs =
     let o = c .before .before .before .before in
     let g = o .before .before .before .before .before .before .before .before .before .before .before .before .before in
-    omega (
-      arith,
-      stands-within _ _ _ _ _ _ (g .pre .0 .spelt) (sym (o .choice-of .ensures) ∙ c .before .before .start
-          .given .1) .0,
-      g .good,
-    )
-
-sub-store-all : tie.Need-sub-store-all
-sub-store-all c = search needs
-
-part-store-all-start : tie.Need-part-store-all-start
-part-store-all-start c = search needs
-
-part-store-all-end : tie.Need-part-store-all-end
-part-store-all-end c =
-    let o = c .before .before .before .before in
-    let g = o .before .before .before .before .before .before .before .before .before .before .before .before .before in
-    stands-within _ _ _ _ _ _ (g .pre .0 .spelt) (sym (o .choice-of .ensures) ∙ c .before .before .start .given .1) .0
-
-store-all-requires : tie.Need-store-all-requires
-store-all-requires c κs = search needs
+    stands-within _ _ _ _ _ _ (g .pre .0 .spelt) (sym (o .choice-of .ensures) ∙ c .before .before .start .given .1)
+    .0
 
 enum-known-field : tie.Need-enum-known-field
 enum-known-field c = search needs
@@ -112,7 +82,7 @@ same-length-2 c = search needs
 returns-3 : tie.Need-returns-3
 returns-3 c =
     let all = c .before .before in
-    let known = all .before .before .before .before in
+    let known = all .before .before .before in
     let o = known .before .before in
     let k = o .before .before .before .before in
     let test = k .before .before in
@@ -122,7 +92,7 @@ returns-3 c =
     isLeaf {count = known .start .given .0 .1 .0} (test .if1 .left) (omega (arith, w .1, g .pre .0 .few))
     (tree-stands _ _ _ _ _ _ _ chosen ∙
     ap leaf (sym (stands-front _ _ _ _ (w .0) (omega (arith, w .1, g .pre .0 .few, g .pre .1, k .keep-meeting .kept))
-    (all .store-all .ensures))))
+    (all .copy-entries .ensures))))
 
 same-length-3 : tie.Need-same-length-3
 same-length-3 c = search needs
@@ -150,12 +120,7 @@ look-at-spec =
     choice-of-requires
     enum-told
     enum-known-start
-    add-end
-    mul-store-all
-    sub-store-all
-    part-store-all-start
-    part-store-all-end
-    store-all-requires
+    copy-entries-requires
     enum-known-field
     same-length
     returns-2

@@ -8,7 +8,8 @@ use borrow.Fn.PlainCycle.{Measures, is, falls, and}
 use Rattle.fields.proofs.bounds.left_part.Reads as left-part
 use Rattle.fields.proofs.bounds.right_part.Reads as right-part
 use Rattle.trees.specs.Words.{mostNodes, mostPool}
-use Rattle.builder.proofs.Seeing.{SeenLeaf, SeenCut, seen-leaf, seen-cut, after-left}
+use Rattle.builder.proofs.Seeing.{SeenLeaf, SeenCut, seen-leaf, seen-cut}
+use Rattle.builder.proofs.SeenParts.{after-left}
 use Rattle.builder.proofs.grow.look_at.Reads as look-at
 use Rattle.builder.proofs.grow.leaf_part.Reads as leaf-part
 use Rattle.builder.proofs.grow.left_spot.Reads as left-spot

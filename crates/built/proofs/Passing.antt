@@ -15,10 +15,10 @@ use Rattle.tree_check.specs.declared.preorder.Part.the-variants.{Good}
 use Rattle.tree_check.specs.Preorder.{leafPart, partOf}
 use Rattle.tree_check.proofs.Parts.{part-leaf, part-divided}
 use Rattle.tree_check.proofs.Leaves.{entries-rise, lack-none}
-use Rattle.builder.specs.Trees.{Tree}
-use Rattle.builder.specs.Layout.{size}
-use Rattle.builder.proofs.Lying.{Lies, aLeaf, aCut}
-use Rattle.builder.proofs.Covering.{ListsRules, Covers, byLeaf, byCut}
+use Rattle.built.specs.Trees.{Tree}
+use Rattle.built.specs.Layout.{size}
+use Rattle.built.proofs.Lying.{Lies, aLeaf, aCut}
+use Rattle.built.proofs.Covering.{ListsRules, Covers, byLeaf, byCut}
 
 -- the check of the part that begins at node i accepts it up to e, and it lacks nothing
 pub record PartPasses (rs nodes pool : List ℕ) (k : ℕ) (b : List (List ℕ)) (i e : ℕ) : Type 0 where

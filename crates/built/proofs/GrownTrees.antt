@@ -4,9 +4,9 @@ use mathlib.Core.Bool.{true, false}
 use mathlib.Core.Path.{_≡_, refl}
 use mathlib.Core.List.{List}
 use Rattle.fields.specs.Cuts.{leftOf, rightOf}
-use Rattle.builder.specs.Boxes.{meeting}
-use Rattle.builder.specs.CutValues.{chosenField, chosenValue, stops}
-use Rattle.builder.specs.Trees.{leaf, cut, grown}
+use Rattle.built.specs.Boxes.{meeting}
+use Rattle.built.specs.CutValues.{chosenField, chosenValue, stops}
+use Rattle.built.specs.Trees.{leaf, cut, grown}
 
 module _ (n : ℕ) (boxes : List (List (List ℕ))) (b : List (List ℕ)) where
   -- where no more cuts are allowed it is a leaf of all that meet the box

@@ -7,11 +7,11 @@ use lib.ListN.{length}
 use Rattle.trees.specs.Words.{leafMark, fieldOf}
 use Rattle.trees.specs.Spelt.{countsBelow}
 use Rattle.trees.proofs.LeafSpelling.{counts-step, cut-counts-none, leaf-counts}
-use Rattle.builder.specs.Trees.{Tree}
-use Rattle.builder.specs.Layout.{size, pooled}
-use Rattle.builder.proofs.Laying.{length-pooled}
-use Rattle.builder.proofs.Lying.{Lies, aLeaf, aCut}
-use Rattle.builder.proofs.Covering.{Covers, byLeaf, byCut}
+use Rattle.built.specs.Trees.{Tree}
+use Rattle.built.specs.Layout.{size, pooled}
+use Rattle.built.proofs.Laying.{length-pooled}
+use Rattle.built.proofs.Lying.{Lies, aLeaf, aCut}
+use Rattle.built.proofs.Covering.{Covers, byLeaf, byCut}
 
 -- a cut adds no count
 pub cut-adds-none :

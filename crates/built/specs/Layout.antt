@@ -13,7 +13,7 @@ use Rattle.refusals.specs.declared.Refusal.the-variants.{OutputShort}
 use Rattle.refusals.specs.declared.Verdict.{Verdict}
 use Rattle.refusals.specs.Order.{refuseUnless, _then_}
 use Rattle.trees.specs.Words.{nodeWords, leafMark}
-use Rattle.builder.specs.Trees.{Tree, leaf, cut}
+use Rattle.built.specs.Trees.{Tree, leaf, cut}
 
 unfoldable pub size : Tree → ℕ
 size (leaf l) = 1

@@ -11,14 +11,14 @@ use Rattle.rules.specs.Good.{listVerdict}
 use Rattle.trees.specs.Words.{nodeWords, mostNodes, mostPool, nodeCount}
 use Rattle.trees.specs.Spelt.{countsBelow}
 use Rattle.trees.proofs.LeafSpelling.{counts-first}
-use Rattle.builder.specs.Trees.{Tree}
-use Rattle.builder.specs.Layout.{size, pooled, nodeFits, entriesFit, fits}
-use Rattle.builder.specs.BuiltTree.{builtTree, builtNodes, builtPool, buildVerdict}
-use Rattle.builder.proofs.Laying.{count-laid}
-use Rattle.builder.proofs.Fitting.{entries-fit-iff, fits-fine-iff}
-use Rattle.builder.proofs.Lying.{Lies, aLeaf, aCut, laid-lies}
-use Rattle.builder.proofs.Covering.{Covers, byLeaf, byCut, built-covers}
-use Rattle.builder.proofs.Counting.{cut-adds-none, counts-pass}
+use Rattle.built.specs.Trees.{Tree}
+use Rattle.built.specs.Layout.{size, pooled, nodeFits, entriesFit, fits}
+use Rattle.built.specs.BuiltTree.{builtTree, builtNodes, builtPool, buildVerdict}
+use Rattle.built.proofs.Laying.{count-laid}
+use Rattle.built.proofs.Fitting.{entries-fit-iff, fits-fine-iff}
+use Rattle.built.proofs.Lying.{Lies, aLeaf, aCut, laid-lies}
+use Rattle.built.proofs.Covering.{Covers, byLeaf, byCut, built-covers}
+use Rattle.built.proofs.Counting.{cut-adds-none, counts-pass}
 use Rattle.refusals.proofs.Splitting.{then-nothing, then-same, turns-one, turns-first-add}
 
 -- what is tested at node i, the room being a and b

@@ -17,7 +17,7 @@ use lib.Dec.{leb, eqb}
 use Rattle.facts.specs.Below.{allBelow, lowest}
 use Rattle.facts.specs.Lists.{upFrom, keep, anyOf}
 use Rattle.fields.specs.Boxes.{lowOf, highOf}
-use Rattle.builder.specs.Boxes.{boxOf, meeting}
+use Rattle.built.specs.Boxes.{boxOf, meeting}
 
 unfoldable pub endsAt : List (List ℕ) → ℕ → ℕ → Bool
 endsAt a f v = eqb (highOf a f) v || eqb (lowOf a f) (v + 1)

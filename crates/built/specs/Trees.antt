@@ -6,8 +6,8 @@ use Prim.Native.Nat.{ℕ, zero, suc}
 use mathlib.Core.Bool.{Bool, true, false}
 use mathlib.Core.List.{List}
 use Rattle.fields.specs.Cuts.{leftOf, rightOf}
-use Rattle.builder.specs.Boxes.{meeting}
-use Rattle.builder.specs.CutValues.{chosenField, chosenValue, stops}
+use Rattle.built.specs.Boxes.{meeting}
+use Rattle.built.specs.CutValues.{chosenField, chosenValue, stops}
 
 pub data Tree : Type 0 where
   leaf : List ℕ → Tree

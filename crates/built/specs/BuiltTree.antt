@@ -14,9 +14,9 @@ use Rattle.fields.specs.Boxes.{rootBox}
 use Rattle.rules.specs.Good.{listVerdict}
 use Rattle.trees.specs.Words.{nodeWords, mostNodes, mostPool}
 use Rattle.tree_check.specs.Whole.{mostCuts}
-use Rattle.builder.specs.Boxes.{boxesOf}
-use Rattle.builder.specs.Trees.{Tree, grown}
-use Rattle.builder.specs.Layout.{pooled, laid, fits}
+use Rattle.built.specs.Boxes.{boxesOf}
+use Rattle.built.specs.Trees.{Tree, grown}
+use Rattle.built.specs.Layout.{pooled, laid, fits}
 
 abbrev pub treeOf : List (List (List ℕ)) → Tree
 treeOf boxes = grown mostCuts fieldCount boxes rootBox

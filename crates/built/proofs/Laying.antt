@@ -5,8 +5,8 @@ use mathlib.Core.Path.{_≡_, refl}
 use mathlib.Core.List.{List, [], _∷_, _++_}
 use lib.ListN.{length, length-append}
 use Rattle.trees.specs.Words.{nodeWords, leafMark, nodeCount}
-use Rattle.builder.specs.Trees.{Tree, leaf, cut}
-use Rattle.builder.specs.Layout.{size, pooled, laid}
+use Rattle.built.specs.Trees.{Tree, leaf, cut}
+use Rattle.built.specs.Layout.{size, pooled, laid}
 
 -- a tree has nodes
 pub size-some : (t : Tree) → 0 < size t

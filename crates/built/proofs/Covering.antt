@@ -13,13 +13,13 @@ use Rattle.fields.specs.Cuts.{divides, leftOf, rightOf}
 use Rattle.rules.specs.Words.{ruleCount}
 use Rattle.rules.specs.Matching.{ruleBox}
 use Rattle.tree_check.specs.Whole.{mostCuts}
-use Rattle.builder.specs.Boxes.{meeting, boxesOf}
-use Rattle.builder.specs.CutValues.{stops}
-use Rattle.builder.specs.Trees.{Tree, leaf, cut, grown}
-use Rattle.builder.specs.BuiltTree.{builtTree}
-use Rattle.builder.proofs.Meeting.{meeting-iff, meeting-rises, meeting-at-most, length-boxes, box-of-rule}
-use Rattle.builder.proofs.Chosen.{chosen-there, chosen-divides}
-use Rattle.builder.proofs.GrownTrees.{grown-zero, grown-stops, grown-divided}
+use Rattle.built.specs.Boxes.{meeting, boxesOf}
+use Rattle.built.specs.CutValues.{stops}
+use Rattle.built.specs.Trees.{Tree, leaf, cut, grown}
+use Rattle.built.specs.BuiltTree.{builtTree}
+use Rattle.built.proofs.Meeting.{meeting-iff, meeting-rises, meeting-at-most, length-boxes, box-of-rule}
+use Rattle.built.proofs.Chosen.{chosen-there, chosen-divides}
+use Rattle.built.proofs.GrownTrees.{grown-zero, grown-stops, grown-divided}
 
 -- the entries of a leaf whose box is b: they rise, they are rules, and no rule that meets b is lacking
 pub record ListsRules (rs : List ℕ) (b : List (List ℕ)) (l : List ℕ) : Type 0 where

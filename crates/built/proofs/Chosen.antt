@@ -14,9 +14,9 @@ use Rattle.facts.proofs.Cases.{Order, below, same, above, order}
 use Rattle.facts.proofs.Largest.{LargestAt, largest-at}
 use Rattle.fields.specs.Cuts.{divides}
 use Rattle.fields.proofs.Cuts.{divides-iff}
-use Rattle.builder.specs.Boxes.{meeting}
-use Rattle.builder.specs.CutValues.{cutCount, hasMost, chosenField, chosenValue, mostInLeaf, stops}
-use Rattle.builder.proofs.CutValues.{cut-value-at}
+use Rattle.built.specs.Boxes.{meeting}
+use Rattle.built.specs.CutValues.{cutCount, hasMost, chosenField, chosenValue, mostInLeaf, stops}
+use Rattle.built.proofs.CutValues.{cut-value-at}
 
 module _ (n : ℕ) (boxes : List (List (List ℕ))) (b : List (List ℕ)) where
   -- a field that has the most cut values has no fewer than any other

@@ -7,9 +7,9 @@ use mathlib.Core.List.{List, [], _∷_, _++_, append-assoc, append-nil}
 use lib.ListN.{length, getD, take, drop, length-append}
 use lib.Seq.{getD-append-add, take-at, drop-at}
 use Rattle.trees.specs.Words.{nodeWords, leafMark, nodeCount, fieldOf, valueOf, childOf, startOf, countOf, entries}
-use Rattle.builder.specs.Trees.{Tree, leaf, cut}
-use Rattle.builder.specs.Layout.{size, pooled, laid}
-use Rattle.builder.proofs.Laying.{size-some, length-laid}
+use Rattle.built.specs.Trees.{Tree, leaf, cut}
+use Rattle.built.specs.Layout.{size, pooled, laid}
+use Rattle.built.proofs.Laying.{size-some, length-laid}
 
 -- the tree lies in these words, its first node being node i, and its entries starting at place s of the pool
 pub data Lies (nodes pool : List ℕ) : Tree → ℕ → ℕ → Type 0 where

@@ -11,13 +11,13 @@ use Rattle.trees.specs.Words.{leafMark, nodeCount, fieldOf, childOf, startOf, c
 use Rattle.trees.specs.Spelt.{countsBelow, Spelt}
 use Rattle.trees.proofs.LeafSpelling.{counts-first}
 use Rattle.trees.proofs.NodeSpelling.{SpeltNode}
-use Rattle.builder.specs.Trees.{Tree}
-use Rattle.builder.specs.Layout.{size}
-use Rattle.builder.specs.BuiltTree.{builtTree, builtNodes, builtPool}
-use Rattle.builder.proofs.Laying.{size-some, count-laid}
-use Rattle.builder.proofs.Lying.{Lies, aLeaf, aCut, laid-lies}
-use Rattle.builder.proofs.Covering.{ListsRules, Covers, byLeaf, byCut, built-covers}
-use Rattle.builder.proofs.Counting.{cut-adds-none, counts-pass}
+use Rattle.built.specs.Trees.{Tree}
+use Rattle.built.specs.Layout.{size}
+use Rattle.built.specs.BuiltTree.{builtTree, builtNodes, builtPool}
+use Rattle.built.proofs.Laying.{size-some, count-laid}
+use Rattle.built.proofs.Lying.{Lies, aLeaf, aCut, laid-lies}
+use Rattle.built.proofs.Covering.{ListsRules, Covers, byLeaf, byCut, built-covers}
+use Rattle.built.proofs.Counting.{cut-adds-none, counts-pass}
 
 module _ (rs nodes pool : List ℕ) where
   -- the leaf at node i is spelt, where it lists rules and its entries start at the sum of the counts below

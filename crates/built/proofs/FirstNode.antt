@@ -9,9 +9,9 @@ use Rattle.refusals.specs.declared.Refusal.the-variants.{OutputShort}
 use Rattle.refusals.specs.declared.Verdict.the-variants.{Fine, Refused}
 use Rattle.refusals.proofs.Order.{fails-refused, then-fine, then-refused}
 use Rattle.trees.specs.Words.{nodeWords}
-use Rattle.builder.specs.Trees.{Tree, leaf, cut}
-use Rattle.builder.specs.Layout.{size, pooled, nodeFits, entriesFit, fits}
-use Rattle.builder.proofs.Fitting.{node-fits-iff, entries-fit-iff}
+use Rattle.built.specs.Trees.{Tree, leaf, cut}
+use Rattle.built.specs.Layout.{size, pooled, nodeFits, entriesFit, fits}
+use Rattle.built.proofs.Fitting.{node-fits-iff, entries-fit-iff}
 
 node-short : (i a : ℕ) → a < (i + 1) * nodeWords → nodeFits i a ≡ Refused (OutputShort ((i + 1) * nodeWords) 0)
 unfolding nodeFits

@@ -18,14 +18,14 @@ use Rattle.tree_check.specs.TreeCheck.{rootPart, checkVerdict}
 use Rattle.tree_check.specs.Serves.{Serves}
 use Rattle.tree_check.proofs.Stages.{Reached, lack-decides}
 use Rattle.tree_check.proofs.Accepts.{accepts-iff-serves}
-use Rattle.builder.specs.Layout.{size, fits}
-use Rattle.builder.specs.BuiltTree.{builtTree, builtNodes, builtPool, buildVerdict}
-use Rattle.builder.proofs.Laying.{size-some, length-laid, count-laid}
-use Rattle.builder.proofs.Fitting.{fits-fine-iff}
-use Rattle.builder.proofs.Lying.{laid-lies}
-use Rattle.builder.proofs.Covering.{built-covers}
-use Rattle.builder.proofs.Passing.{PartPasses, covers-passes}
-use Rattle.builder.proofs.BuiltSpelt.{built-spelt}
+use Rattle.built.specs.Layout.{size, fits}
+use Rattle.built.specs.BuiltTree.{builtTree, builtNodes, builtPool, buildVerdict}
+use Rattle.built.proofs.Laying.{size-some, length-laid, count-laid}
+use Rattle.built.proofs.Fitting.{fits-fine-iff}
+use Rattle.built.proofs.Lying.{laid-lies}
+use Rattle.built.proofs.Covering.{built-covers}
+use Rattle.built.proofs.Passing.{PartPasses, covers-passes}
+use Rattle.built.proofs.BuiltSpelt.{built-spelt}
 
 module _ (rs : List ℕ) where
   -- the root's part of the tree that is built passes, and lacks nothing

@@ -19,12 +19,12 @@ use Rattle.rules.specs.Good.{listVerdict}
 use Rattle.trees.specs.Words.{nodeWords, mostNodes, mostPool, leafMark, nodeCount, fieldOf}
 use Rattle.trees.specs.Spelt.{countsBelow}
 use Rattle.trees.proofs.LeafSpelling.{counts-first}
-use Rattle.builder.specs.Layout.{nodeFits, entriesFit, fits}
-use Rattle.builder.specs.BuiltTree.{builtTree, builtNodes, buildVerdict}
-use Rattle.builder.specs.FirstUnfit.{RoomAt, Unfit, nodeShort, poolShort, FirstUnfit}
-use Rattle.builder.proofs.Fitting.{node-fits-iff, entries-fit-iff}
-use Rattle.builder.proofs.Counting.{cut-adds-none}
-use Rattle.builder.proofs.FitsInTurn.{fits-in-turn}
+use Rattle.built.specs.Layout.{nodeFits, entriesFit, fits}
+use Rattle.built.specs.BuiltTree.{builtTree, builtNodes, buildVerdict}
+use Rattle.built.specs.FirstUnfit.{RoomAt, Unfit, nodeShort, poolShort, FirstUnfit}
+use Rattle.built.proofs.Fitting.{node-fits-iff, entries-fit-iff}
+use Rattle.built.proofs.Counting.{cut-adds-none}
+use Rattle.built.proofs.FitsInTurn.{fits-in-turn}
 
 module _ (nodes : List ℕ) (a b : ℕ) where
   -- what is tested at node i

@@ -8,9 +8,9 @@ use lib.Seq.{sets}
 use Rattle.facts.proofs.Setting.{sets-append}
 use Rattle.facts.proofs.Sets.{sets-apart}
 use Rattle.trees.specs.Words.{nodeWords}
-use Rattle.builder.specs.Trees.{Tree, cut}
-use Rattle.builder.specs.Layout.{size, pooled, laid}
-use Rattle.builder.proofs.Laying.{length-laid}
+use Rattle.built.specs.Trees.{Tree, cut}
+use Rattle.built.specs.Layout.{size, pooled, laid}
+use Rattle.built.proofs.Laying.{length-laid}
 
 -- the words of a cut: those of its left part, then its own, then those of its right part
 pub cut-words :

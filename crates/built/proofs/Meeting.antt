@@ -17,7 +17,7 @@ use Rattle.facts.proofs.Places.{getD-up}
 use Rattle.fields.specs.Boxes.{meets}
 use Rattle.rules.specs.Words.{ruleCount}
 use Rattle.rules.specs.Matching.{ruleBox}
-use Rattle.builder.specs.Boxes.{boxOf, meeting, boxesOf}
+use Rattle.built.specs.Boxes.{boxOf, meeting, boxesOf}
 
 module _ (n : ℕ) (boxes : List (List (List ℕ))) (b : List (List ℕ)) where
   -- a number is listed exactly where it is a box's number and that box meets b

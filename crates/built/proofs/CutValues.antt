@@ -11,7 +11,7 @@ use Rattle.facts.proofs.Members.{kept-iff, has-of-up, up-has}
 use Rattle.facts.proofs.Rising.{rises-lower, rises-kept, rises-up}
 use Rattle.facts.proofs.Places.{has-at}
 use Rattle.fields.specs.Boxes.{lowOf, highOf}
-use Rattle.builder.specs.CutValues.{cutsAt, cutValues}
+use Rattle.built.specs.CutValues.{cutsAt, cutValues}
 
 module _ (n : ℕ) (boxes : List (List (List ℕ))) (b : List (List ℕ)) (f : ℕ) where
   -- a number is a cut value exactly where it is at least the low and below the high, and some box ends there

@@ -8,9 +8,9 @@ use borrow.Author.Tests.{leb-true, le-leb}
 use Rattle.refusals.specs.declared.Verdict.the-variants.{Fine}
 use Rattle.refusals.proofs.Order.{fine-iff-holds, then-fine-iff}
 use Rattle.trees.specs.Words.{nodeWords}
-use Rattle.builder.specs.Trees.{Tree, leaf, cut}
-use Rattle.builder.specs.Layout.{size, pooled, nodeFits, entriesFit, fits}
-use Rattle.builder.proofs.Laying.{length-pooled}
+use Rattle.built.specs.Trees.{Tree, leaf, cut}
+use Rattle.built.specs.Layout.{size, pooled, nodeFits, entriesFit, fits}
+use Rattle.built.proofs.Laying.{length-pooled}
 
 -- node i fits exactly where the words of the nodes up to and including it do
 pub node-fits-iff : (i a : ℕ) → (nodeFits i a ≡ Fine) ↔ ((i + 1) * nodeWords ≤ a)

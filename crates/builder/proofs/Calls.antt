@@ -1,6 +1,5 @@
 -- What the build's promise tells of its answers: a tree is the list's own, it may serve, and it is one whatever the
--- room;
--- and when it is refused.
+-- room; and when it is refused.
 use Prim.Native.Nat.{ℕ, _*_, _≤_, min}
 use native.Mathlib.Nat.{min-le-left, min-le-right, le-min}
 use native.Mathlib.Omega.{arith}

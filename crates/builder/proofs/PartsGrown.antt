@@ -1,6 +1,5 @@
 -- A part grown from its node: a leaf, stored; a cut whose left part is refused; and a cut whose left part, own words
--- and
--- right part are stored in turn.
+-- and right part are stored in turn.
 use Prim.Native.Nat.{ℕ, _+_, _*_, _≤_}
 use native.Mathlib.Omega.{arith}
 use mathlib.Core.Path.{_≡_, refl, sym, _∙_}

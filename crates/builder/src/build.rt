@@ -125,6 +125,7 @@ fn room_of(nodes: usize, pool: usize) -> Room
     }
 }
 
+// The smaller of two numbers.
 fn smaller(a: usize, b: usize) -> usize
     ensures { λ r. ⌜ r ≡ min a b ⌝ }
 {

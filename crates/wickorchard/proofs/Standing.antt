@@ -1,15 +1,21 @@
--- Who answers as the list does.
+-- Who answers as the list does, and that an accepted tree has nothing to tell.
 use Prim.Native.Nat.{ℕ, _≤_}
-use mathlib.Core.Path.{_≡_, sym, ap, subst, _∙_}
+use mathlib.Core.Bool.{Bool, true}
+use mathlib.Core.Path.{_≡_, refl, sym, ap, subst, _∙_}
 use mathlib.Core.List.{List}
 use lib.ListN.{length, take}
+use Rattle.facts.proofs.Bools.{clash}
+use Rattle.refusals.specs.declared.Verdict.{Verdict}
+use Rattle.refusals.specs.declared.Verdict.the-variants.{Fine, Refused}
 use Rattle.policy.specs.declared.tree.Taken.{Taken}
+use Rattle.policy.specs.declared.tree.Taken.the-variants as taken
 use Rattle.policy.specs.declared.serving.Serving.{Serving}
 use Rattle.policy.specs.Files.{ListOfFile}
-use Rattle.policy.specs.WhoServes.{servingOf}
+use Rattle.policy.specs.WhoServes.{serving, servingOf}
 use Rattle.policy.specs.Output.{answersBy}
 use Rattle.policy.proofs.Listing.{list-good}
 use Rattle.policy.proofs.Servers.{served-as-list, served-within}
+use Rattle.system.specs.Handed.{VerdictSaid}
 use Rattle.wickorchard.specs.Handed.{AnswersAsList}
 
 -- whoever serves answers as the list does
@@ -31,3 +37,25 @@ pub serving-fits :
 serving-fits t rs nodes pool e =
     subst (λ (s : Serving). (s .nodes ≤ length nodes) × (s .pool ≤ length pool)) (sym e)
     (served-within t rs nodes pool)
+
+by-verdict : (v : Verdict) (ns es : List ℕ) → serving v ns es .accepted ≡ true → serving v ns es .refused ≡ Fine
+unfolding serving
+by-verdict Fine ns es a = refl
+by-verdict (Refused why) ns es a = clash a refl
+
+-- a tree that serves was not refused
+accepted-fine :
+    (t : Taken) (rs nodes pool : List ℕ) → servingOf t rs nodes pool .accepted ≡ true →
+    servingOf t rs nodes pool .refused ≡ Fine
+unfolding servingOf
+accepted-fine (taken.Refused why) rs nodes pool a = by-verdict (Refused why) _ _ a
+accepted-fine (taken.Words n p) rs nodes pool a = by-verdict _ _ _ a
+
+-- so nothing was to be told, and it was
+pub serving-told :
+    (t : Taken) (rs nodes pool : List ℕ) {r : Serving} {told : Bool} → r ≡ servingOf t rs nodes pool →
+    VerdictSaid (r .refused) told → r .accepted ≡ true → told ≡ true
+serving-told t rs nodes pool e said a =
+    said
+    (ap (λ (s : Serving). s .refused) e ∙
+    accepted-fine t rs nodes pool (ap (λ (s : Serving). s .accepted) (sym e) ∙ a))

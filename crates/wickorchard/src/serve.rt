@@ -7,7 +7,7 @@ use libc::STDIN_FILENO;
 use system::load::Got;
 use system::load::read_some;
 ghost use Prim.Native.Nat.{_≤_};
-ghost use mathlib.Core.Bool.{false};
+ghost use mathlib.Core.Bool.{true, false};
 ghost use mathlib.Core.Path.{_≡_};
 ghost use lib.ListN.{length};
 ghost use Rattle.console.specs.Lines.{mostReply};
@@ -27,10 +27,12 @@ pub struct Turn {
 }
 
 // Answers standard input to its end, and then the part that has no newline. Output that cannot be written stops it; so
-// it does not begin where the refusal of the tree could not be told. It answers whether all that was due was written.
-// Nothing proves that input ends, so the reads are counted down, from a number that no run uses up.
+// it does not begin where the refusal of the tree could not be told, and an accepted tree has none to tell. It answers
+// whether all that was due was written. Nothing proves that input ends, so the reads are counted down, from a number
+// that no run uses up.
 pub(crate) fn serve(rules: &[u32], nodes: &[u32], pool: &[u32], accepted: bool, told: bool) -> bool
     requires { ⌜ AnswersAsList (now rules) (now nodes) (now pool) accepted ⌝ }
+    requires { ⌜ (accepted ≡ true → told ≡ true) ⌝ }
     ensures { λ r. ⌜ (told ≡ false → r ≡ false) ⌝ }
 {
     let mut piece = [0u8; PIECE];

@@ -164,14 +164,23 @@ impl Bench {
     pub fn build(&mut self, case: &str, rules: &[u32], rooms: [usize; 2]) -> Agreed {
         self.arena.take_back();
         let lent_rules = self.arena.lend("rules", rules);
-        let [mut nodes, mut pool] = rooms.map(unwritten_words);
-        let lent_nodes = self.arena.lend("nodes", &nodes);
-        let lent_pool = self.arena.lend("pool", &pool);
-        let answer = oracle::build(rules, &mut nodes, &mut pool);
-        self.arena.want(lent_nodes, &nodes);
-        self.arena.want(lent_pool, &pool);
+        let ([nodes, pool], answer) = self.lend_tree(rooms, |nodes, pool| oracle::build(rules, nodes, pool));
         let inputs = Inputs { rules: Some(rules), rooms: &rooms, ..Inputs::of(Call::Build, case) };
-        self.compare(inputs, &[lent_rules, lent_nodes, lent_pool], answer)
+        self.compare(inputs, &[lent_rules, nodes, pool], answer)
+    }
+
+    /// Lends rooms for nodes and for a pool, which are to hold what the oracle writes; and gives the oracle's answer.
+    fn lend_tree(
+        &mut self,
+        rooms: [usize; 2],
+        oracle: impl FnOnce(&mut [u32], &mut [u32]) -> Answer,
+    ) -> ([Lent; 2], Answer) {
+        let [mut nodes, mut pool] = rooms.map(unwritten_words);
+        let lent = [self.arena.lend("nodes", &nodes), self.arena.lend("pool", &pool)];
+        let answer = oracle(&mut nodes, &mut pool);
+        self.arena.want(lent[0], &nodes);
+        self.arena.want(lent[1], &pool);
+        (lent, answer)
     }
 
     /// Counts so many headers that a second judge has searched for, for the group's line.

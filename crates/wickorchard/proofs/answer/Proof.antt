@@ -1,8 +1,9 @@
--- `wickorchard::answer` is safe, and whoever serves answers as the list does. Assumes nothing.
+-- `wickorchard::answer` is safe, whoever serves answers as the list does, and an accepted tree has nothing to tell.
+-- Assumes nothing.
 use mathlib.Core.Path.{sym}
 use lib.Seq.{length-take-le}
 use borrow.Author.Needs.{needs}
-use Rattle.wickorchard.proofs.Standing.{serving-handed, serving-fits}
+use Rattle.wickorchard.proofs.Standing.{serving-handed, serving-fits, serving-told}
 use Rattle.wickorchard.proofs.answer.Statement.{statement}
 use Rattle.wickorchard.proofs.answer.Tie as tie
 
@@ -52,7 +53,8 @@ serve-requires c κs =
     let serving = c .before .before .before in
     let taken = serving .before .before .before .before .before in
     let start = taken .before .before .before .before .before .before .before .before .before .before .before in
-    serving-handed _ _ _ _ (start .pre) (serving .who-serves .ensures)
+    let who = serving .who-serves .ensures in
+    (serving-handed _ _ _ _ (start .pre) who, serving-told _ _ _ _ who (c .before .before .say-verdict .ensures))
 
 same-length : tie.Need-same-length
 same-length c = search needs

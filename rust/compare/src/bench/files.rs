@@ -56,14 +56,9 @@ impl Bench {
     pub fn tree_read(&mut self, case: &str, text: &[u8], rooms: [usize; 2]) -> Agreed {
         self.arena.take_back();
         let lent_text = self.arena.lend_text(text);
-        let [mut nodes, mut pool] = rooms.map(unwritten_words);
-        let lent_nodes = self.arena.lend("nodes", &nodes);
-        let lent_pool = self.arena.lend("pool", &pool);
-        let answer = oracle::tree_read(text, &mut nodes, &mut pool);
-        self.arena.want(lent_nodes, &nodes);
-        self.arena.want(lent_pool, &pool);
+        let ([nodes, pool], answer) = self.lend_tree(rooms, |nodes, pool| oracle::tree_read(text, nodes, pool));
         let inputs = Inputs { text: Some(text), rooms: &rooms, ..Inputs::of(Call::TreeRead, case) };
-        self.compare(inputs, &[lent_text, lent_nodes, lent_pool], answer)
+        self.compare(inputs, &[lent_text, nodes, pool], answer)
     }
 
     /// Writes the list with ample room.

@@ -1,6 +1,6 @@
--- `system::out::say_verdict` hands on exactly what is due for the verdict. Assumes nothing.
+-- `system::out::say_verdict` meets its contract, and hands on exactly what is due for the verdict. Assumes nothing.
 use borrow.Author.Needs.{needs}
-use Rattle.system.proofs.Standing.{said-holds}
+use Rattle.system.proofs.Standing.{said-holds, fine-said}
 use Rattle.system.proofs.out.say_verdict.Statement.{statement}
 use Rattle.system.proofs.out.say_verdict.Tie as tie
 
@@ -17,7 +17,7 @@ write-verdict-requires : tie.Need-write-verdict-requires
 write-verdict-requires c κs = said-holds _ (c .before .before .verdict-line .ensures)
 
 returns : tie.Need-returns
-returns c = search needs
+returns c = fine-said _ (c .before .before .before .verdict-line .ensures) (c .write-verdict .ensures)
 
 pub say-verdict-spec : {M : Type 1} → statement M
 say-verdict-spec =

@@ -31,7 +31,7 @@ slice-aggregate-answer-some-2 c = omega arith
 answer-some-requires : tie.Need-answer-some-requires Inv-loop μ-loop
 answer-some-requires c κs =
     let w = c .before .before .before .before .before .before .before .before .before in
-    (w .pre, omega arith)
+    (w .pre .0, omega arith)
 
 sub-reads : tie.Need-sub-reads Inv-loop μ-loop
 sub-reads c = omega arith

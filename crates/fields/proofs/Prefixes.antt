@@ -1,14 +1,16 @@
 -- Prefixes of addresses of any width: the tests one by one, and that a good prefix is its range.
-use Prim.Native.Nat.{ℕ, _+_, _-_, _*_, _/_, _%_, _^_, _≤_, _<_}
-use native.Mathlib.Nat.{div-add-mod', mod-lt, mod-eq-of-lt, div-eq-of-lt, div-eq-of-lt-le, one-mul}
+use Prim.Native.Nat.{ℕ, zero, suc, _+_, _-_, _*_, _/_, _%_, _^_, _≤_, _<_, zero-le}
+use native.Mathlib.Nat.{div-add-mod', mod-lt, mod-one, div-eq-of-lt, div-eq-of-lt-le, one-mul}
+use native.Mathlib.Numerals.{add-one}
 use native.Mathlib.Omega.{arith}
 use mathlib.Core.Bool.{true, false, _&&_}
-use mathlib.Core.Path.{_≡_, sym, ap, _∙_}
+use mathlib.Core.Path.{_≡_, refl, sym, ap, _∙_}
 use mathlib.Core.Logic.{_↔_}
 use lib.Dec.{leb, ltb, eqb}
 use lib.Bits.{bitXor, xor-shr}
-use lib.Pow.{pow-pos, pow-mono, pow-lt, pow-add, shl-exact, shl-shr}
-use borrow.Author.Tests.{le-leb, lt-leb, eqb-true, eq-eqb, le-ltb}
+use lib.Count.{trailingZeros, under}
+use lib.Pow.{pow-pos, pow-mono, pow-lt, pow-add, mod-pow-add, shl-exact, shl-shr}
+use borrow.Author.Tests.{le-leb, lt-leb, leb-true, eqb-true, eq-eqb, le-ltb}
 use Rattle.facts.proofs.Bools.{both, join, same-test}
 use Rattle.facts.proofs.Cases.{WithinOrOver, within-or-over, atMost, over}
 use Rattle.facts.proofs.Bits.{no-bit-differs, below-as-quotient}
@@ -49,26 +51,44 @@ pub long-not-good : (w address len : ℕ) → w < len → false ≡ prefixGood w
 unfolding prefixGood
 long-not-good w address len l = rw (lt-leb len w l)
 
--- within the width, a prefix is good exactly where its first bits, moved back to their place, are all of it
-pub moved-back-good :
-    (w address len : ℕ) {a b k : ℕ} → len ≤ w → a ≡ address / span w len → k ≡ w - len → b ≡ address →
-    address < 2 ^ 64 → eqb (a * 2 ^ k % 2 ^ 64) b ≡ prefixGood w address len
-unfolding prefixGood span
-moved-back-good w address len l p k q u =
-    rw (p, k, q, le-leb len w l, mod-eq-of-lt small)
-    (same-test (eqb (address / s * s) address) (eqb (address % s) 0) to of)
+-- the w lowest bits of a number end in at least k zeros exactly where 2^k divides the number
+ends-in-zeros-iff : (w k n : ℕ) → k ≤ w → (k ≤ trailingZeros w n) ↔ (n % 2 ^ k ≡ 0)
+unfolding trailingZeros
+ends-in-zeros-iff w zero n h = (λ _. mod-one n, λ _. zero-le)
+ends-in-zeros-iff zero (suc k) n h = absurd (omega arith)
+ends-in-zeros-iff (suc w) (suc k) n h = by (n % 2) refl (ends-in-zeros-iff w k (n / 2) (omega arith))
   where
-    s : ℕ
-    s = 2 ^ (w - len)
+    t : ℕ
+    t = trailingZeros w (n / 2)
 
-    small : address / s * s < 2 ^ 64
-    small = omega (arith, div-add-mod' address s)
+    parted : n % 2 ^ suc k ≡ n / 2 % 2 ^ k * 2 + n % 2
+    parted = rw (← add-one k) (mod-pow-add n k 1)
 
-    to : eqb (address / s * s) address ≡ true → eqb (address % s) 0 ≡ true
-    to e = eq-eqb (address % s) 0 (omega (arith, div-add-mod' address s, eqb-true (address / s * s) address e))
+    by : (bit : ℕ) → n % 2 ≡ bit → (k ≤ t) ↔ (n / 2 % 2 ^ k ≡ 0) → (suc k ≤ under bit t) ↔ (n % 2 ^ suc k ≡ 0)
+    by zero e rest = (
+      λ l. omega (arith, parted, rest .0 (omega arith)),
+      λ z. omega (arith, rest .1 (omega (arith, parted))),
+    )
+    by (suc bit) e rest = (λ l. absurd (omega arith), λ z. absurd (omega (arith, parted)))
 
-    of : eqb (address % s) 0 ≡ true → eqb (address / s * s) address ≡ true
-    of e = eq-eqb (address / s * s) address (omega (arith, div-add-mod' address s, eqb-true (address % s) 0 e))
+-- within the width, a prefix is good exactly where its address ends in at least as many zeros as it has bits past the
+-- length
+pub zeros-past-good :
+    (w address len : ℕ) → len ≤ w → leb (w - len) (trailingZeros w address) ≡ prefixGood w address len
+unfolding prefixGood span
+zeros-past-good w address len l = rw (le-leb len w l) (same-test (leb k t) (eqb (address % 2 ^ k) 0) to of)
+  where
+    k : ℕ
+    k = w - len
+
+    t : ℕ
+    t = trailingZeros w address
+
+    to : leb k t ≡ true → eqb (address % 2 ^ k) 0 ≡ true
+    to e = eq-eqb (address % 2 ^ k) 0 (ends-in-zeros-iff w k address (omega arith) .0 (leb-true k t e))
+
+    of : eqb (address % 2 ^ k) 0 ≡ true → leb k t ≡ true
+    of e = le-leb k t (ends-in-zeros-iff w k address (omega arith) .1 (eqb-true (address % 2 ^ k) 0 e))
 
 -- ---- how many words share a prefix
 

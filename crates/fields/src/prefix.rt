@@ -1,5 +1,5 @@
 // Prefixes: an address and how many of its first bits count.
-ghost use Prim.Native.Nat.{_/_, _^_, _≤_, min};
+ghost use Prim.Native.Nat.{_/_, _^_, min};
 ghost use mathlib.Core.Path.{_≡_};
 ghost use Rattle.fields.specs.Words.{addressBits};
 ghost use Rattle.fields.specs.Prefixes.{span, prefixGood, prefixAgrees, prefixLast, prefixMeets};
@@ -17,14 +17,15 @@ const LAST_WORD: u32 = 4_294_967_295;
 // The most places by which a u64 can be shifted.
 const MOST_PLACES: u32 = 63;
 
-// Whether the length is at most that of an address, and the bits past it are zero.
+// Whether the length is at most that of an address, and the bits past it are zero: the address then ends in at least as
+// many zeros as there are such bits. An address of zero ends in `ADDRESS_BITS` zeros, so it is good at every length.
 pub fn prefix_good(address: u32, len: u32) -> bool
     ensures { λ r. ⌜ r ≡ prefixGood addressBits address len ⌝ }
 {
     if ADDRESS_BITS < len {
         return false;
     }
-    first_bits(address, len) << in_64_bits(ADDRESS_BITS - len) == in_64_bits(address)
+    ADDRESS_BITS - len <= u32::trailing_zeros(address)
 }
 
 // Whether the first `len` bits of the address and of the word agree. The bits in which the two differ then are none of
@@ -83,14 +84,6 @@ fn span_of(len: u32) -> u64
         return 1;
     }
     1 << in_64_bits(ADDRESS_BITS - len)
-}
-
-// The first `len` bits of a word. It is shifted as a u64, so that a length of 0 may shift it by its whole width.
-fn first_bits(word: u32, len: u32) -> u64
-    requires { ⌜ len ≤ addressBits ⌝ }
-    ensures { λ r. ⌜ r ≡ word / span addressBits len ⌝ }
-{
-    in_64_bits(word) >> in_64_bits(ADDRESS_BITS - len)
 }
 
 fn in_64_bits(word: u32) -> u64

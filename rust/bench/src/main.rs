@@ -1,10 +1,12 @@
 //! Times the library's tree check and tree searches beside a plain Rust walk of the same tree, at the largest sizes;
 //! the compiler beside a plain Rust compiler of the same tree; the scans of a list beside a plain Rust scan of it; and
-//! the writers and readers of both files.
+//! the writers and readers of both files. Given two builds of the library, it times these beside each other instead
+//! (`beside.rs`).
 //!
 //! The plain walk trusts the tree: it looks at no node that its header does not need, refuses nothing and counts
 //! nothing.
 
+mod beside;
 mod builds;
 mod files;
 mod plain_build;
@@ -132,12 +134,18 @@ fn timed(calls: usize, mut turn: impl FnMut()) -> Duration {
 }
 
 fn main() {
-    let tree = Tree::largest();
     let mut state = 540_000_u64;
     let mut draw = || {
         state = state.wrapping_mul(6_364_136_223_846_793_005).wrapping_add(1_442_695_040_888_963_407);
         (state >> 32) as u32
     };
+    let builds: Vec<String> = std::env::args().skip(1).collect();
+    match builds.as_slice() {
+        [] => (),
+        [before, now] => return beside::time([before, now], &mut draw),
+        _ => panic!("give nothing, or two builds of the library as shared libraries: BEFORE.so NOW.so"),
+    }
+    let tree = Tree::largest();
     let headers: Vec<[u32; 5]> =
         (0..HEADERS).map(|_| [draw(), draw(), draw() & 65_535, draw() & 65_535, draw() & 255]).collect();
     let mut out = [0_u32; 8];

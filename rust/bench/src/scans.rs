@@ -69,7 +69,7 @@ fn kinds(draw: &mut impl FnMut() -> u32) -> Vec<Kind> {
 }
 
 /// A good rule: two prefixes of any length, and three ranges.
-fn drawn_rule(draw: &mut impl FnMut() -> u32) -> [u32; RULE_WORDS] {
+pub fn drawn_rule(draw: &mut impl FnMut() -> u32) -> [u32; RULE_WORDS] {
     let mut rule = [0; RULE_WORDS];
     for prefix in rule[..4].chunks_exact_mut(2) {
         let length = draw() % 33;

@@ -5,12 +5,13 @@ use crate::damages::{self, damaged_rules};
 use crate::draws::Draws;
 use crate::headers::{self, Header};
 use crate::lists::{self, Manner, Rule, EVERYTHING, MANNERS, WORKED_POLICY};
+use crate::texts;
 
 const PURPOSE: &str = "damage";
 
 pub fn run(bench: &mut Bench) -> Run {
     bench.group(PURPOSE, "every kind of damage at the first, a middle and the last rule", one_bad_rule)?;
-    bench.group(PURPOSE, "each stray bit past each prefix length", stray_bits)?;
+    bench.group(PURPOSE, "each stray bit past each prefix length, in lists and in files", stray_bits)?;
     bench.group(PURPOSE, "two bad rules, the lower one named", two_bad_rules)?;
     bench.group(PURPOSE, "a bad rule after the first match", bad_after_match)?;
     bench.group(PURPOSE, "too large ports and protocols, alone and together", bad_headers)
@@ -49,7 +50,10 @@ fn stray_bits(bench: &mut Bench) -> Run {
                     rule[2 * field + 1] = length;
                     let case = format!("field {field}, length {length}, stray bit {position} of {address:#010x}");
                     let header = headers::with([0; 5], field, address);
-                    expect_bad_rule(bench, &case, &[EVERYTHING, rule, EVERYTHING], &header, 1)?;
+                    let rules = [EVERYTHING, rule, EVERYTHING];
+                    expect_bad_rule(bench, &case, &rules, &header, 1)?;
+                    let answer = bench.read_in_rooms(&case, &texts::rules_file(3, &rules))?;
+                    assert_eq!((answer.number, answer.place), (9, 3), "the oracle: {case}");
                 }
             }
         }

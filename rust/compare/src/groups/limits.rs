@@ -6,12 +6,14 @@ use crate::bench::{Bench, Run};
 use crate::draws::Draws;
 use crate::headers::{self, LARGEST, WORKED};
 use crate::lists::{self, Manner, EVERYTHING, MANNERS, WORKED_POLICY};
+use crate::texts;
 
 const PURPOSE: &str = "limits";
 
 pub fn run(bench: &mut Bench) -> Run {
     bench.group(PURPOSE, "lists of 0, 1, 511, 512, 513 and more rules", list_sizes)?;
     bench.group(PURPOSE, "prefix lengths 0 and 32 in both addresses", outer_lengths)?;
+    bench.group(PURPOSE, "address zero at lengths 0 to 70 and far over, in lists and in files", zero_addresses)?;
     bench.group(PURPOSE, "rule words not a multiple of ten", broken_tens)?;
     bench.group(PURPOSE, "rule words over 5,120", too_many_words)?;
     bench.group(PURPOSE, "header lengths 0 to 12", header_lengths)
@@ -63,6 +65,23 @@ fn outer_lengths(bench: &mut Bench) -> Run {
                     }
                 }
             }
+        }
+    }
+    Ok(())
+}
+
+/// An address of zero has no bit set past any length, so it is good up to 32, in one address or in both.
+fn zero_addresses(bench: &mut Bench) -> Run {
+    let far_over = [255, 256, 1 << 16, 1 << 31, u32::MAX - 31, u32::MAX];
+    for lengths in [[1, 0], [0, 1], [1, 1]] {
+        for length in (0..=70).chain(far_over) {
+            let mut rule = EVERYTHING;
+            [rule[1], rule[3]] = lengths.map(|is_tried| is_tried * length);
+            let rules = [WORKED_POLICY[0], rule];
+            let case = format!("address zero, lengths {} and {}", rule[1], rule[3]);
+            let [in_list, in_file] = if length <= 32 { [0, 0] } else { [2, 9] };
+            expect_number(bench.all_calls(&case, &rules.concat(), &[0; 5])?, in_list);
+            expect_number(bench.read_in_rooms(&case, &texts::rules_file(2, &rules))?, in_file);
         }
     }
     Ok(())

@@ -51,7 +51,7 @@ pub long-not-good : (w address len : ℕ) → w < len → false ≡ prefixGood w
 unfolding prefixGood
 long-not-good w address len l = rw (lt-leb len w l)
 
--- the w lowest bits of a number end in at least k zeros exactly where 2^k divides the number
+-- within the width, the w lowest bits of a number end in at least k zeros exactly where 2^k divides the number
 ends-in-zeros-iff : (w k n : ℕ) → k ≤ w → (k ≤ trailingZeros w n) ↔ (n % 2 ^ k ≡ 0)
 unfolding trailingZeros
 ends-in-zeros-iff w zero n h = (λ _. mod-one n, λ _. zero-le)

@@ -4,9 +4,9 @@
 //!     cc -shared -Wl,-Bsymbolic -Wl,--whole-archive target/native/libwickorchard.a -Wl,--no-whole-archive -o NOW.so
 //!     cargo run --release --manifest-path rust/Cargo.toml --package bench -- BEFORE.so NOW.so
 //!
-//! BEFORE.so is made by the first two lines in a clone of the tree as it was before. Both libraries are loaded into this
-//! program. Their answers and the words that they leave are compared first. Then they take turns, and each begins as
-//! often as the other, so that what slows the machine down for a while slows down both. The middle turn counts. A
+//! BEFORE.so is made by the first two lines in a clone of the tree as it was before. Both libraries are loaded into
+//! this program. Their answers and the words that they leave are compared first. Then they take turns, and each begins
+//! as often as the other, so that what slows the machine down for a while slows down both. The middle turn counts. A
 //! library beside a copy of itself shows how far two times of the same code lie apart.
 
 use std::ffi::{c_char, c_int, c_void, CStr, CString};

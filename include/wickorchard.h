@@ -21,8 +21,9 @@
  *     6  lowest destination port              7  highest destination port
  *     8  lowest protocol                      9  highest protocol
  * It is good if each length is at most 32, the address bits past the length are 0, no low end is over its high end,
- * ports are at most 65,535 and protocols at most 255. A list is up to WICK_MOST_RULES rules, one after another. They
- * are numbered from 0, and of the rules that match a header the lowest number decides.
+ * ports are at most 65,535 and protocols at most 255. A list is up to WICK_MOST_RULES rules, one after another, no two
+ * of which have the same ten words. They are numbered from 0, and of the rules that match a header the lowest number
+ * decides.
  *
  * A HEADER is five words (WICK_HEADER_WORDS), fields 0 to 4: source address, destination address, source port,
  * destination port, protocol. Ports are at most 65,535, the protocol is at most 255. A packet without ports has 0 for
@@ -95,6 +96,8 @@ enum {
     /* The text stops before its end line: place is the number of whole lines; what follows the last newline is not
      * read. */
     WICK_TEXT_STOPS = 10,
+    /* A rule has the ten words of an earlier one: place is the lowest such rule, extra the earlier one. */
+    WICK_RULE_HAS_TWIN = 11,
     /* No call gives this. The program does, for a file that cannot be read to its end or is over 65,536 bytes. */
     WICK_FILE_NOT_READ = 12
 };
@@ -117,17 +120,17 @@ enum {
     WICK_MOST_FILE_BYTES = 65536 /* of a file of the program; no good list or accepted tree has a longer text */
 };
 
-/* Is the list good? Refuses with 1, 2. a: the number of rules. */
+/* Is the list good? Refuses with 1, 2, 11. a: the number of rules. */
 void wick_rule_check(const uint32_t *rules, uint64_t rules_len, wick_answer *answer);
 
-/* Judges the list, then searches it line by line for every rule that matches. Refuses with 1, 2, 3, 4. Writes the
+/* Judges the list, then searches it line by line for every rule that matches. Refuses with 1, 2, 11, 3, 4. Writes the
  * numbers that match to the front of `out`, rising; the rest of `out` is as found. WICK_MOST_RULES words are always
  * enough. a: how many it wrote. */
 void wick_line_all(const uint32_t *rules, uint64_t rules_len, const uint32_t *header, uint64_t header_len,
                    uint32_t *out, uint64_t out_len, wick_answer *answer);
 
-/* Judges the list, then searches it line by line for the lowest rule that matches. Refuses with 1, 2, 3. a: the rule's
- * number + 1, or 0 where none matches. */
+/* Judges the list, then searches it line by line for the lowest rule that matches. Refuses with 1, 2, 11, 3. a: the
+ * rule's number + 1, or 0 where none matches. */
 void wick_line_first(const uint32_t *rules, uint64_t rules_len, const uint32_t *header, uint64_t header_len,
                      wick_answer *answer);
 
@@ -163,13 +166,13 @@ void wick_tree_first(const uint32_t *rules, uint64_t rules_len, const uint32_t *
                      wick_answer *answer);
 
 /* Is the tree well formed, and does it give every header the list that the line search gives? Where it completes, the
- * tree is accepted for these rules. Refuses with 1, 2, 5, then 6 or 7 at the first fault, then 8. a: the most cuts
- * above a leaf, and b: the entries of the longest leaf. */
+ * tree is accepted for these rules. Refuses with 1, 2, 11, 5, then 6 or 7 at the first fault, then 8. a: the most
+ * cuts above a leaf, and b: the entries of the longest leaf. */
 void wick_tree_check(const uint32_t *rules, uint64_t rules_len, const uint32_t *nodes, uint64_t nodes_len,
                      const uint32_t *pool, uint64_t pool_len, wick_answer *answer);
 
-/* Compiles the list: builds its tree. One list gives one tree. Refuses with 1, 2, then 4 at the first node, from node 0
- * on, that does not fit, be it that too little is lent or that the tree is over WICK_MOST_NODE_WORDS or
+/* Compiles the list: builds its tree. One list gives one tree. Refuses with 1, 2, 11, then 4 at the first node, from
+ * node 0 on, that does not fit, be it that too little is lent or that the tree is over WICK_MOST_NODE_WORDS or
  * WICK_MOST_POOL_WORDS. Place is the node words up to and with that node; or, where these fit, the pool words up to and
  * with it, and extra is 1. So with just as much room a build may stop at a later node. Writes three words for each node
  * to the front of `nodes` and the leaf entries to the front of `pool`; the rest of both is as found. More than
@@ -178,13 +181,14 @@ void wick_tree_check(const uint32_t *rules, uint64_t rules_len, const uint32_t *
 void wick_build(const uint32_t *rules, uint64_t rules_len, uint32_t *nodes, uint64_t nodes_len, uint32_t *pool,
                 uint64_t pool_len, wick_answer *answer);
 
-/* Writes the list as a rules file. Refuses with 1, 2, 4. Writes the file's bytes to the front of `text`; the rest of
- * `text` is as found. WICK_MOST_FILE_BYTES bytes are always enough. a: how many bytes it wrote. */
+/* Writes the list as a rules file. Refuses with 1, 2, 11, 4. Writes the file's bytes to the front of `text`; the rest
+ * of `text` is as found. WICK_MOST_FILE_BYTES bytes are always enough. a: how many bytes it wrote. */
 void wick_rules_write(const uint32_t *rules, uint64_t rules_len, uint8_t *text, uint64_t text_len, wick_answer *answer);
 
-/* Reads a rules file, which is the whole of `text`. Refuses with 9 or 10 at the first fault, then 4. Writes ten words
- * for each rule to the front of `rules`; the rest of `rules` is as found. WICK_MOST_RULE_WORDS words are always enough.
- * What it has read is a good list. a: the number of rules. */
+/* Reads a rules file, which is the whole of `text`. Refuses with 9 or 10 at the first fault, then 11, then 4.
+ * Place and extra of 11 are rules, not lines. Writes ten words for each rule to the front of `rules`; the rest of
+ * `rules` is as found. WICK_MOST_RULE_WORDS words are always enough. What it has read is a good list. a: the number of
+ * rules. */
 void wick_rules_read(const uint8_t *text, uint64_t text_len, uint32_t *rules, uint64_t rules_len, wick_answer *answer);
 
 /* Writes the tree, which is for a list of `rule_count` rules, as a tree file. Refuses with 1, 5, then 6 or 7 at the

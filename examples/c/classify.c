@@ -56,8 +56,8 @@ static int load_rules(const char *folder) {
     wick_answer answer;
     wick_rules_read(text, (uint64_t)length, policy.rules, WICK_MOST_RULE_WORDS, &answer);
     if (answer.number) {
-        fprintf(stderr, "classify: rules.txt is refused with %lu, place %lu\n", number(answer.number),
-                number(answer.place));
+        fprintf(stderr, "classify: rules.txt is refused with %lu, place %lu, extra %lu\n", number(answer.number),
+                number(answer.place), number(answer.extra));
         return 0;
     }
     policy.rules_len = WICK_RULE_WORDS * answer.a;

@@ -15,7 +15,7 @@ use Rattle.refusals.proofs.Order.{then-refused}
 use Rattle.refusals.proofs.Promises.{writes-fine, writes-refused, writes-after}
 use Rattle.rules.specs.Words.{mostRules, ruleCount}
 use Rattle.rules.specs.Good.{listVerdict}
-use Rattle.rules.proofs.Lists.{GoodList}
+use Rattle.rules.proofs.Lists.{GoodRules}
 use Rattle.trees.specs.Words.{nodeWords, mostNodes, mostPool}
 use Rattle.built.specs.Boxes.{boxesOf}
 use Rattle.built.specs.Layout.{size, pooled, laid}
@@ -41,7 +41,7 @@ room-rooted a b e h =
 
 -- the boxes of a good list are no more than its rules
 pub boxes-few :
-    (rs ws : List ℕ) → GoodList rs → length ws ≡ mostRules * boxWords →
+    (rs ws : List ℕ) → GoodRules rs → length ws ≡ mostRules * boxWords →
     boxCount (take (ruleCount rs * boxWords) ws) ≤ mostRules
 boxes-few rs ws g e = omega (arith, g .few, length-take-le (ruleCount rs * boxWords) ws (omega (arith, g .few)))
 

@@ -20,7 +20,7 @@ use Rattle.rules.specs.Words.{ruleCount, formOf, fieldOf}
 use Rattle.rules.specs.Good.{listVerdict}
 use Rattle.rules.specs.Matching.{ruleBox}
 use Rattle.rules.specs.Bounds.{endsOf}
-use Rattle.rules.proofs.Lists.{fine-iff-good}
+use Rattle.rules.proofs.Lists.{good-of-fine}
 use Rattle.rules.proofs.Meaning.{box-ends}
 use Rattle.rules.proofs.Ends.{ends-of-good}
 use Rattle.built.specs.Boxes.{boxesOf}
@@ -62,7 +62,7 @@ pub side-found :
 side-found rs i fine words h =
     let r : ℕ = i / fieldCount in
     let there : r < ruleCount rs = omega arith in
-    ends-of-good rs r (i % fieldCount) (fine-iff-good rs .0 fine .each r there) there (omega arith) words
+    ends-of-good rs r (i % fieldCount) (good-of-fine rs fine .each r there) there (omega arith) words
 
 module _ (ws : List ℕ) (n a b : ℕ) where
   -- two words put at side n

@@ -1,5 +1,5 @@
 // The compiler of lists into trees: HyperSplit with balanced segments, fixed so that one list gives one tree.
-//   build::build    the tree of a list, into lent node words and pool words: 1, 2, 4
+//   build::build    the tree of a list, into lent node words and pool words: 1, 2, 11, 4
 // It takes any words. Its modules, lowest first:
 //   boxes     the boxes of the rules as words, and which of them meet a box
 //   sort      numbers sorted, each once

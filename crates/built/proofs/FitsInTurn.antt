@@ -64,7 +64,7 @@ module _ (rs : List ℕ) (a b : ℕ) where
       (fits-turns rs (builtNodes rs) (builtPool rs) a b (built-covers rs) (laid-lies (builtTree rs))
       (sym (counts-first (builtNodes rs))) (omega arith))
 
--- the build refuses with 1, 2, and then with 4 at the first node that passes the room or the limits of a tree
+-- the build refuses with 1, 2, 11, and then with 4 at the first node that passes the room or the limits of a tree
 pub build-in-turn :
     (rs : List ℕ) (a b : ℕ) →
     buildVerdict rs a b ≡

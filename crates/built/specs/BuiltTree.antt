@@ -4,7 +4,7 @@
 --   builtNodes rs, builtPool rs    its words
 --   treeFits t a b        4 at the first node of the tree t that passes the room a for node words or b for pool words,
 --                         or the limits of a tree
---   buildVerdict rs a b   1, 2, then that
+--   buildVerdict rs a b   1, 2, 11, then that
 use Prim.Native.Nat.{ℕ, _*_, min}
 use mathlib.Core.List.{List}
 use Rattle.refusals.specs.declared.Verdict.{Verdict}

@@ -2,6 +2,8 @@
 use Prim.Native.Nat.{ℕ}
 use mathlib.Core.Path.{_≡_}
 use mathlib.Core.List.{List}
+use Rattle.rules.proofs.EqualWords.{same-iff}
+use Rattle.rules.proofs.Lists.{fine-iff-apart, eleven-iff, eleven-at-iff}
 use Rattle.rules.proofs.Meaning.{matches-iff-inside}
 use Rattle.rules.proofs.Listing.{listed-iff-matches, matching-rises, first-is-lowest}
 use Rattle.rules.proofs.Searches.{scanned-of-good}
@@ -9,13 +11,24 @@ use Rattle.tree_check.specs.Serves.{Serves}
 use Rattle.tree_check.proofs.Accepts.{accepts-iff-serves}
 use Rattle.tree_check.proofs.Searches.{refuses-none, same-list, same-verdict, same-words, same-first}
 use Rattle.text.specs.Text.{good}
+use Rattle.rule_file.proofs.ReadTwins.{read-eleven-iff}
 use Rattle.rule_file.proofs.RoundTrips.{read-of-written as rules-back, written-of-read as rules-exact, good-of-read}
 use Rattle.rule_file.proofs.RoundTrips.{below-of-read as rules-below, cut-refused as rules-cut}
 use Rattle.tree_file.specs.TreeText.{Tree, tree, treeIn}
 use Rattle.tree_file.specs.TreeLines.{textOf, Fits}
 use Rattle.tree_file.proofs.RoundTrips.{read-of-written as tree-back, written-of-read as tree-exact}
 use Rattle.tree_file.proofs.RoundTrips.{spelling-of-read, below-of-read, cut-refused as tree-cut}
-use Rattle.claims.specs.Demand2.{Matching, ByTree, RuleFile, TreeFile}
+use Rattle.claims.specs.Demand2.{Twins, Matching, ByTree, RuleFile, TreeFile}
+
+pub twins-claim : Twins
+twins-claim =
+    record {
+      words = same-iff;
+      none = fine-iff-apart;
+      eleven = eleven-iff;
+      eleven-at = eleven-at-iff;
+      in-text = read-eleven-iff;
+    }
 
 pub matching-claim : Matching
 matching-claim =

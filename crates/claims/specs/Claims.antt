@@ -3,7 +3,7 @@ use Prim.Native.Nat.{ℕ}
 use mathlib.Core.List.{List}
 use Rattle.tree_check.specs.Serves.{Serves}
 use Rattle.claims.specs.Demand1.{Code, Calls}
-use Rattle.claims.specs.Demand2.{Matching, ByTree, RuleFile, TreeFile}
+use Rattle.claims.specs.Demand2.{Twins, Matching, ByTree, RuleFile, TreeFile}
 use Rattle.claims.specs.Demand3.{TreeCheck}
 use Rattle.claims.specs.Compiler.{Compiler}
 use Rattle.claims.specs.Worked.{AllHold, table}
@@ -12,6 +12,7 @@ use Rattle.claims.specs.Beyond.{Program}
 pub record Claims : Type 2 where
   pub code : {M : Type 1} → Code M
   pub calls : Calls
+  pub twins : Twins
   pub matching : Matching
   pub by-tree : (rs ns es : List ℕ) → Serves rs ns es → ByTree rs ns es
   pub rule-file : RuleFile

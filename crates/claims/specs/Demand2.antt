@@ -1,4 +1,5 @@
--- Demand 2: what is listed, by the list or by a tree that serves it, and what the two files keep. Statements only.
+-- Demand 2: which lists have twins, what is listed, by the list or by a tree that serves it, and what the two files
+-- keep. Statements only.
 use Prim.Native.Nat.{ℕ, _^_, _<_}
 use mathlib.Core.Bool.{true, false}
 use mathlib.Core.Logic.{_↔_}
@@ -6,21 +7,44 @@ use mathlib.Core.Path.{_≡_}
 use mathlib.Core.List.{List, [], _∷_, _++_}
 use lib.ListN.{length}
 use Rattle.facts.specs.Lists.{has, rises}
-use Rattle.refusals.specs.declared.Refusal.the-variants.{TextStops}
-use Rattle.refusals.specs.declared.Verdict.the-variants.{Fine}
+use Rattle.refusals.specs.declared.Refusal.the-variants.{TextStops, RuleHasTwin}
+use Rattle.refusals.specs.declared.Verdict.the-variants.{Fine, Refused}
 use Rattle.refusals.specs.Order.{_then_, _giving_}
 use Rattle.fields.specs as fields
 use Rattle.rules.specs as rules
 use Rattle.rules.specs.declared.line.Listed.{Listed}
+use Rattle.rules.specs.Twins.{sameWords, Alike, NoTwins, FirstTwins}
+use Rattle.rules.specs.Good.{rulesVerdict, listVerdict}
 use Rattle.rules.specs.Matching.{matches, matching, ruleBox}
 use Rattle.rules.specs.LineFirst.{firstOf}
 use Rattle.trees.specs as trees
 use Rattle.trees.specs.declared.search.TreeListed.{TreeListed}
 use Rattle.text.specs.Line.{EachUnder}
 use Rattle.text.specs.Text as text
-use Rattle.rule_file.specs.RuleText.{rulesIn, rulesText}
+use Rattle.rule_file.specs.RuleText.{linesIn, rulesIn, rulesText}
 use Rattle.tree_file.specs.TreeText.{treeIn}
 use Rattle.tree_file.specs.TreeLines.{textOf, Fits}
+
+-- two rules are twins where they have the same word at each place; a list is fine exactly where it is without them and
+-- 1 and 2 do not refuse it; where they do not, it is refused with 11 exactly if it has twins: the place is the lowest
+-- rule with a twin before it, and the extra that one, the only one; and so is a text whose lines read well
+pub record Twins : Type 0 where
+  pub words :
+      (rs : List ℕ) (q r : ℕ) →
+      (sameWords rs q r ≡ true) ↔
+      ((j : ℕ) → j < rules.Words.ruleWords → rules.Words.wordOf rs q j ≡ rules.Words.wordOf rs r j)
+  pub none : (rs : List ℕ) → (listVerdict rs ≡ Fine) ↔ ((rulesVerdict rs ≡ Fine) × NoTwins rs)
+  pub eleven :
+      (rs : List ℕ) →
+      ((r : ℕ) × (q : ℕ) × (listVerdict rs ≡ Refused (RuleHasTwin r q))) ↔
+      ((rulesVerdict rs ≡ Fine) × ((r : ℕ) × (q : ℕ) × Alike rs q r))
+  pub eleven-at :
+      (rs : List ℕ) (r q : ℕ) →
+      (listVerdict rs ≡ Refused (RuleHasTwin r q)) ↔ ((rulesVerdict rs ≡ Fine) × FirstTwins rs r q)
+  pub in-text :
+      (s : List ℕ) (r q : ℕ) →
+      (rulesIn s ≡ text.refused (RuleHasTwin r q)) ↔
+      ((ws : List ℕ) × (linesIn s ≡ text.good ws) × FirstTwins ws r q)
 
 -- a number is listed exactly where it is a rule's and the rule matches; the list rises, so each stands there once, and
 -- its first is the lowest; a scan of a good list finds them all; a good rule matches exactly the headers in its box
@@ -31,7 +55,7 @@ pub record Matching : Type 0 where
   pub rising : (rs h : List ℕ) → rises 0 (matching rs h) ≡ true
   pub lowest :
       (rs h : List ℕ) (r : ℕ) (rest : List ℕ) → matching rs h ≡ r ∷ rest → (q : ℕ) → q < r → matches rs h q ≡ false
-  pub scan : (rs h : List ℕ) → rules.Good.listVerdict rs ≡ Fine → rules.Scan.scanned rs h ≡ matching rs h
+  pub scan : (rs h : List ℕ) → listVerdict rs ≡ Fine → rules.Scan.scanned rs h ≡ matching rs h
   pub box :
       (rs : List ℕ) (r : ℕ) → rules.Good.good rs r ≡ true → (h : List ℕ) →
       (matches rs h r ≡ true) ↔ fields.Boxes.Inside fields.Words.fieldCount (ruleBox rs r) h
@@ -45,7 +69,7 @@ pub record ByTree (rs ns es : List ℕ) : Type 0 where
       trees.TreeAll.TreeAllSearched rs ns es h found r v → rules.LineAll.LineAllSearched rs h found s w → v ≡ w
   pub first :
       (h : List ℕ) → (trees.Search.reachVerdict rs ns es h giving firstOf (trees.Search.treeList rs ns es h)) ≡
-      ((rules.Good.listVerdict rs then fields.Headers.headerVerdict h) giving firstOf (matching rs h))
+      ((listVerdict rs then fields.Headers.headerVerdict h) giving firstOf (matching rs h))
   pub completes : (h : List ℕ) → fields.Headers.Legal h → trees.Search.reachVerdict rs ns es h ≡ Fine
   pub lists : (h : List ℕ) → fields.Headers.Legal h → trees.Search.treeList rs ns es h ≡ matching rs h
 
@@ -59,7 +83,7 @@ pub record File {W : Type 0} (read : List ℕ → text.Reading W) (write : W →
       read p ≡ text.refused (TextStops (length (text.linesOf (text.split p))))
 
 abbrev pub RuleFile : Type 0
-RuleFile = File rulesIn rulesText (λ ws. (rules.Good.listVerdict ws ≡ Fine) × EachUnder (2 ^ 32) ws)
+RuleFile = File rulesIn rulesText (λ ws. (listVerdict ws ≡ Fine) × EachUnder (2 ^ 32) ws)
 
 abbrev pub TreeFile : Type 0
 TreeFile = File treeIn textOf Fits

@@ -25,7 +25,7 @@ use Rattle.rules.specs.Words.{mostRules, ruleCount}
 use Rattle.rules.specs.Good.{listVerdict}
 use Rattle.rules.specs.Matching.{matches, matching}
 use Rattle.rules.specs.LineAll.{allVerdict}
-use Rattle.rules.proofs.Lists.{fine-iff-good}
+use Rattle.rules.proofs.Lists.{good-of-fine}
 use Rattle.rules.proofs.Listing.{listed-iff-matches}
 use Rattle.text.specs.Words.{newline, tab}
 use Rattle.text.specs.Line.{EachUnder, printLine}
@@ -52,7 +52,7 @@ hit-short ms few below =
 
 module _ (rs h : List ℕ) (fine : listVerdict rs ≡ Fine) where
   few-rules : ruleCount rs ≤ mostRules
-  few-rules = omega (arith, fine-iff-good rs .0 fine .few)
+  few-rules = omega (arith, good-of-fine rs fine .few)
 
   few-matching : length (matching rs h) ≤ mostRules
   unfolding matching

@@ -11,7 +11,7 @@ use Rattle.refusals.specs.declared.Verdict.the-variants as verdict
 use Rattle.refusals.proofs.Order.{then-fine, then-refused}
 use Rattle.refusals.proofs.Promises.{refused-by, fine-by, said-by, left-written, writes-refused, writes-after}
 use Rattle.rules.specs.Words.{ruleCount}
-use Rattle.rules.proofs.Lists.{fine-iff-good}
+use Rattle.rules.proofs.Lists.{good-of-fine}
 use Rattle.trees.specs.Words.{nodeWords, mostNodes, mostPool}
 use Rattle.tree_check.proofs.Accepts.{accepted}
 use Rattle.built.specs.Layout.{size}
@@ -33,7 +33,7 @@ pub built-spelling :
     (rs : List ℕ) → largestBuild rs ≡ verdict.Fine → Spelling (ruleCount rs) (builtNodes rs) (builtPool rs)
 built-spelling rs e =
     let t = accepted rs (builtNodes rs) (builtPool rs) (built-accepted rs (mostNodes * nodeWords) mostPool e) .2 in
-    record { few = omega (arith, fine-iff-good rs .0 (t .list) .few); sizes = t .sizes; spelt = t .spelt }
+    record { few = omega (arith, good-of-fine rs (t .list) .few); sizes = t .sizes; spelt = t .spelt }
 
 module _
     (rs : List ℕ) {nodes pool nodes′ pool′ : List ℕ} {r : Built} (t : build.TreeBuilt rs nodes pool r nodes′ pool′)

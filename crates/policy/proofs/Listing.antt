@@ -16,7 +16,7 @@ use Rattle.refusals.proofs.Promises.{refused-by, fine-by, said-by, writes-refus
 use Rattle.refusals.proofs.Promises.{writes-fine, left-found, left-written}
 use Rattle.rules.specs.Words.{ruleWords, ruleCount}
 use Rattle.rules.specs.Good.{listVerdict}
-use Rattle.rules.proofs.Lists.{fine-iff-good}
+use Rattle.rules.proofs.Lists.{good-of-fine}
 use Rattle.text.specs.Text.{Reading, good, refused}
 use Rattle.rule_file.specs.declared.read.Read.{Read}
 use Rattle.rule_file.specs.declared.read.Read.the-variants as read
@@ -35,7 +35,7 @@ use Rattle.policy.specs.TakeList.{ListTaken}
 pub words-whole :
     (s : List ℕ) (a : Reading (List ℕ)) → rulesIn s ≡ a → length (wordsIn a) ≡ ruleCount (wordsIn a) * ruleWords
 words-whole s (refused why) e = refl
-words-whole s (good ws) e = omega (arith, fine-iff-good ws .0 (good-of-read s ws e) .whole)
+words-whole s (good ws) e = omega (arith, good-of-fine ws (good-of-read s ws e) .whole)
 
 module _ (s : List ℕ) {before after : List ℕ} {r : Read} (t : RulesRead s before r after) where
   -- its refusal

@@ -13,7 +13,7 @@ use Rattle.refusals.specs.declared.Verdict.the-variants.{Fine, Refused}
 use Rattle.refusals.specs.Order.{_then_}
 use Rattle.refusals.proofs.Order.{refused-not-fine, holds-fine, then-fine, then-fine-iff, room-fine-iff}
 use Rattle.rules.specs.Words.{ruleWords, mostRules}
-use Rattle.rules.proofs.Lists.{fine-iff-good}
+use Rattle.rules.proofs.Lists.{good-of-fine}
 use Rattle.trees.specs.Words.{nodeWords, mostNodes, mostPool}
 use Rattle.trees.proofs.Sizes.{sizes-fine-iff}
 use Rattle.tree_check.specs.TreeCheck.{checkVerdict}
@@ -93,7 +93,7 @@ list-room (some s) {a} h = go (rulesIn s) refl
     go : (t : Reading (List ℕ)) → rulesIn s ≡ t → rule-file.readVerdict t a ≡ ownVerdict t
     go (refused why) e = refl
     go (good ws) e =
-        let few = fine-iff-good ws .0 (good-of-read s ws e) .few in room-fine-iff (length ws) a .1 (omega arith)
+        let few = good-of-fine ws (good-of-read s ws e) .few in room-fine-iff (length ws) a .1 (omega arith)
 
 -- words for the most nodes and for the longest pool are room for any tree
 pub tree-room :

@@ -1,5 +1,5 @@
 -- What a list is compiled into: the text of the tree that is built for it. Definitions only.
---   largestBuild rs          1, 2, then 4 as the build refuses where there is room for the largest tree
+--   largestBuild rs          1, 2, 11, then 4 as the build refuses where there is room for the largest tree
 --   builtText rs             the text of the tree of the list rs
 --   compileVerdict rs room   the same refusals, then 4 where the room is less than the bytes of the text
 --   TextCompiled             the promise: the text stands in front of the lent bytes, or it is refused

@@ -1,6 +1,6 @@
 -- Taking the list of the rule file. Definitions only.
 --   paper               an answer on paper: the words of the list
---   ListTaken           the promise: 12, 9 or 10 of the rule file f, then 4 where the room is less than the list's
+--   ListTaken           the promise: 12, 9, 10 or 11 of the rule file f, then 4 where the room is less than the list's
 --                       words; else how many words it has, which stand in front
 use Prim.Native.Nat.{ℕ}
 use mathlib.Core.List.{List, [], _∷_}

@@ -3,7 +3,7 @@ use Prim.Native.Nat.{ℕ, _≤_, _<_}
 use native.Mathlib.Omega.{arith}
 use mathlib.Core.Bool.{Bool, true, false}
 use mathlib.Core.Path.{_≡_, refl, sym}
-use mathlib.Core.Logic.{_↔_}
+use mathlib.Core.Logic.{_⊎_, inl, inr, _↔_}
 use mathlib.Core.List.{List}
 use borrow.Author.Tests.{leb-true, le-leb, lt-leb}
 use Rattle.refusals.specs.declared.Refusal.{Refusal}
@@ -48,6 +48,13 @@ pub then-fine-iff : (v w : Verdict) → ((v then w) ≡ Fine) ↔ ((v ≡ Fine) 
 unfolding _then_
 then-fine-iff Fine w = (λ e. (refl, e), λ h. h .1)
 then-fine-iff (Refused why) w = (λ e. refused-not-fine e, λ h. h .0)
+
+-- two checks in order refuse where the first does, or where it is fine and the second does
+pub then-cases :
+    (v w : Verdict) {why : Refusal} → (v then w) ≡ Refused why → (v ≡ Refused why) ⊎ ((v ≡ Fine) × (w ≡ Refused why))
+unfolding _then_
+then-cases Fine w e = inr (refl, e)
+then-cases (Refused x) w e = inl e
 
 -- how checks in order are bracketed makes no difference
 pub then-assoc : (u v w : Verdict) → ((u then v) then w) ≡ (u then (v then w))

@@ -7,7 +7,7 @@ use lib.ListN.{getD}
 use Rattle.refusals.specs.declared.Refusal.{Refusal}
 use Rattle.refusals.specs.declared.Refusal.the-variants.{RuleWordsWrong, RuleNotGood, HeaderWrong, OutputShort}
 use Rattle.refusals.specs.declared.Refusal.the-variants.{TreeWordsWrong, NodeWrong, LeafWrong, LeafLacksRule}
-use Rattle.refusals.specs.declared.Refusal.the-variants.{LineWrong, TextStops, FileNotRead}
+use Rattle.refusals.specs.declared.Refusal.the-variants.{LineWrong, TextStops, RuleHasTwin, FileNotRead}
 use Rattle.refusals.specs.Table.{numberOf, placeOf, extraOf}
 use Rattle.refusals.specs.Paper.{refusal, success, onPaper}
 
@@ -16,7 +16,7 @@ named : ℕ → ℕ → ℕ → Refusal
 named n p e =
     getD
     (FileNotRead ∷ RuleWordsWrong ∷ RuleNotGood p ∷ HeaderWrong p ∷ OutputShort p e ∷ TreeWordsWrong ∷ NodeWrong p ∷
-    LeafWrong p ∷ LeafLacksRule p e ∷ LineWrong p ∷ TextStops p ∷ [])
+    LeafWrong p ∷ LeafLacksRule p e ∷ LineWrong p ∷ TextStops p ∷ RuleHasTwin p e ∷ [])
     n FileNotRead
 
 named-back : (why : Refusal) → named (numberOf why) (placeOf why) (extraOf why) ≡ why
@@ -31,6 +31,7 @@ named-back (LeafWrong node) = refl
 named-back (LeafLacksRule node rule) = refl
 named-back (LineWrong line) = refl
 named-back (TextStops lines) = refl
+named-back (RuleHasTwin rule earlier) = refl
 named-back FileNotRead = refl
 
 -- two refusals that are the same on paper are the same

@@ -1,12 +1,13 @@
 -- The scope's table of refusals: each variant's number, place and extra. Definitions only.
---   numberOf     1 to 10, and 12
+--   numberOf     1 to 12
 --   placeOf      a rule, field, node or line, the room needed, the whole lines read; 0 where the table names none
---   extraOf      of a short output which one it is, 1 for the pool; of a leaf the lowest rule that it lacks; else 0
+--   extraOf      of a short output which one it is, 1 for the pool; of a leaf the lowest rule that it lacks; of a rule
+--                with a twin the earlier of the two; else 0
 use Prim.Native.Nat.{ℕ}
 use Rattle.refusals.specs.declared.Refusal.{Refusal}
 use Rattle.refusals.specs.declared.Refusal.the-variants.{RuleWordsWrong, RuleNotGood, HeaderWrong, OutputShort}
 use Rattle.refusals.specs.declared.Refusal.the-variants.{TreeWordsWrong, NodeWrong, LeafWrong, LeafLacksRule}
-use Rattle.refusals.specs.declared.Refusal.the-variants.{LineWrong, TextStops, FileNotRead}
+use Rattle.refusals.specs.declared.Refusal.the-variants.{LineWrong, TextStops, RuleHasTwin, FileNotRead}
 
 abbrev pub numberOf : Refusal → ℕ
 numberOf RuleWordsWrong = 1
@@ -19,6 +20,7 @@ numberOf (LeafWrong node) = 7
 numberOf (LeafLacksRule node rule) = 8
 numberOf (LineWrong line) = 9
 numberOf (TextStops lines) = 10
+numberOf (RuleHasTwin rule earlier) = 11
 numberOf FileNotRead = 12
 
 abbrev pub placeOf : Refusal → ℕ
@@ -32,6 +34,7 @@ placeOf (LeafWrong node) = node
 placeOf (LeafLacksRule node rule) = node
 placeOf (LineWrong line) = line
 placeOf (TextStops lines) = lines
+placeOf (RuleHasTwin rule earlier) = rule
 placeOf FileNotRead = 0
 
 abbrev pub extraOf : Refusal → ℕ
@@ -45,4 +48,5 @@ extraOf (LeafWrong node) = 0
 extraOf (LeafLacksRule node rule) = rule
 extraOf (LineWrong line) = 0
 extraOf (TextStops lines) = 0
+extraOf (RuleHasTwin rule earlier) = earlier
 extraOf FileNotRead = 0

@@ -15,6 +15,7 @@ pub enum Refusal {
     LeafLacksRule { node: usize, rule: usize },
     LineWrong { line: usize },
     TextStops { lines: usize },
+    RuleHasTwin { rule: usize, earlier: usize },
     FileNotRead,
 }
 
@@ -41,6 +42,10 @@ pub fn number_of(why: Refusal) -> u64
         Refusal::LeafLacksRule { node: _, rule: _ } => 8,
         Refusal::LineWrong { line: _ } => 9,
         Refusal::TextStops { lines: _ } => 10,
+        Refusal::RuleHasTwin {
+            rule: _,
+            earlier: _,
+        } => 11,
         Refusal::FileNotRead => 12,
     }
 }
@@ -60,11 +65,13 @@ pub fn place_of(why: Refusal) -> u64
         Refusal::LeafLacksRule { node, rule: _ } => node as u64,
         Refusal::LineWrong { line } => line as u64,
         Refusal::TextStops { lines } => lines as u64,
+        Refusal::RuleHasTwin { rule, earlier: _ } => rule as u64,
         Refusal::FileNotRead => 0,
     }
 }
 
-// What the table names besides: the output that is short, or the rule that a leaf lacks; 0 elsewhere.
+// What the table names besides: the output that is short, the rule that a leaf lacks, or the earlier of two rules with
+// equal words; 0 elsewhere.
 pub fn extra_of(why: Refusal) -> u64
     ensures { λ r. ⌜ r ≡ extraOf why ⌝ }
 {
@@ -79,6 +86,7 @@ pub fn extra_of(why: Refusal) -> u64
         Refusal::LeafLacksRule { node: _, rule } => rule as u64,
         Refusal::LineWrong { line: _ } => 0,
         Refusal::TextStops { lines: _ } => 0,
+        Refusal::RuleHasTwin { rule: _, earlier } => earlier as u64,
         Refusal::FileNotRead => 0,
     }
 }

@@ -13,7 +13,7 @@ use Rattle.refusals.proofs.Order.{then-fine, then-fine-iff, room-fine-iff, refu
 use Rattle.refusals.proofs.Promises.{said-by, fine-by, left-written, writes-unique, writes-fine, writes-refused}
 use Rattle.rules.specs.Words.{ruleWords, ruleCount}
 use Rattle.rules.specs.Good.{listVerdict}
-use Rattle.rules.proofs.Lists.{fine-iff-good}
+use Rattle.rules.proofs.Lists.{good-of-fine}
 use Rattle.text.specs.declared.put.Written.{Written}
 use Rattle.text.specs.declared.put.Written.the-variants.{Bytes}
 use Rattle.text.specs.Line.{EachUnder}
@@ -61,7 +61,7 @@ module _ (s : List ℕ) {before after : List ℕ} {n : ℕ} (r : RulesRead s bef
       go (refused why) e w left = refused-not-fine (w .0)
       go (good ws) e w left =
           let count : n ≡ ruleCount ws = (let z = w .1 in cc) in
-          let whole = fine-iff-good ws .0 (good-of-read s ws e) .whole in
+          let whole = good-of-fine ws (good-of-read s ws e) .whole in
           let size : length ws ≡ n * ruleWords = omega (arith, whole) in
           e ∙ rw left (ap good (sym (written-front ws before _ size)))
 

@@ -14,7 +14,7 @@ use Rattle.text.proofs.Sizes.{numberMost, line-size}
 use Rattle.text.proofs.Files.{records-size}
 use Rattle.rules.specs.Words.{ruleWords, mostRules, ruleCount}
 use Rattle.rules.specs.Good.{listVerdict}
-use Rattle.rules.proofs.Lists.{fine-iff-good}
+use Rattle.rules.proofs.Lists.{good-of-fine}
 use Rattle.rule_file.specs.Records.{ruleValues, ruleAt}
 use Rattle.rule_file.specs.ListText.{firstLine, lineOf, ruleLines}
 use Rattle.rule_file.specs.RuleText.{rulesFormat, rulesText}
@@ -39,7 +39,7 @@ rule-length ws i h b =
 pub text-fits : (ws : List ℕ) → listVerdict ws ≡ Fine → EachUnder (2 ^ 32) ws → length (rulesText ws) < 2 ^ 63
 text-fits ws e b =
     let n : ℕ = ruleCount ws in
-    let g = fine-iff-good ws .0 e in
+    let g = good-of-fine ws e in
     let few : n ≤ mostRules = omega (arith, g .few) in
     let first = line-length rulesWord oneTab (n ∷ []) (omega arith, tt) in
     let last = line-length endWord oneTab ((n + 1) ∷ []) (omega arith, tt) in

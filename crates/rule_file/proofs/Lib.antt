@@ -1,5 +1,6 @@
 -- The laws of the rule file: words in parts, one rule and its line, the texts of lists over a format, the two round
--- trips, a text that is cut, the length of a text, what the reader answers, and the calls after one another.
+-- trips, a text that is cut, twins in a text, the length of a text, what the reader answers, and the calls after one
+-- another.
 pub mod Filled
 pub mod Parts
 pub mod Lists
@@ -10,6 +11,7 @@ pub mod Back
 pub mod SoFar
 pub mod Exact
 pub mod Cut
+pub mod ReadTwins
 pub mod RoundTrips
 pub mod Lengths
 pub mod ReadLines

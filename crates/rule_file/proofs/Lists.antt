@@ -2,23 +2,17 @@
 use Prim.Native.Nat.{ℕ, _+_, _*_, _≤_, _<_}
 use native.Mathlib.Omega.{arith}
 use native.Mathlib.Nat.{zero-add}
-use mathlib.Core.Bool.{true, false}
-use mathlib.Core.Logic.{_↔_}
 use mathlib.Core.List.{List}
 use mathlib.Core.Path.{_≡_, sym, ap, _∙_}
 use lib.ListN.{length, getD, take, drop, set, replicate}
 use lib.Seq.{sets, take-all}
 use lib.Seq.{getD-take, getD-drop}
-use Rattle.facts.proofs.Bools.{fails}
 use Rattle.facts.proofs.Setting.{sets-more}
-use Rattle.refusals.specs.declared.Refusal.{Refusal}
-use Rattle.refusals.specs.declared.Verdict.the-variants.{Fine, Refused}
-use Rattle.refusals.proofs.Order.{refused-not-fine}
-use Rattle.rules.specs.Words.{ruleWords, wordOf}
-use Rattle.rules.specs.Good.{listVerdict}
+use borrow.Author.Tests.{lt-ltb}
+use Rattle.rules.specs.Words.{ruleWords, ruleCount, wordOf}
 use Rattle.rules.specs.Good as rules
 use Rattle.rules.proofs.Forms.{good-same}
-use Rattle.rules.proofs.Lists.{GoodList, fine-iff-good}
+use Rattle.rules.proofs.AnyWords.{good-decides}
 use Rattle.rule_file.specs.Records.{ruleAt}
 use Rattle.rule_file.proofs.Filled.{filled-all}
 use Rattle.rule_file.proofs.Parts.{at-length}
@@ -53,19 +47,6 @@ word-at ws i k h =
 pub good-at : (ws : List ℕ) (i : ℕ) → rules.good (ruleAt ws i) 0 ≡ rules.good ws i
 good-at ws i = good-same (ruleAt ws i) ws 0 i (word-at ws i)
 
--- ten words are a good list exactly where they are a good rule
-pub one-good-iff : (r : List ℕ) → length r ≡ ruleWords → (listVerdict r ≡ Fine) ↔ (rules.good r 0 ≡ true)
-one-good-iff r l = (λ e. fine-iff-good r .0 e .each 0 (omega arith), λ g. fine-iff-good r .1 (of g))
-  where
-    of : rules.good r 0 ≡ true → GoodList r
-    of g =
-        record {
-          whole = omega arith;
-          few = omega arith;
-          each = λ k h. let e : k ≡ 0 = omega arith in rw e g;
-        }
-
--- ten words that are refused are not a good rule
-pub one-refused :
-    (r : List ℕ) {why : Refusal} → length r ≡ ruleWords → listVerdict r ≡ Refused why → rules.good r 0 ≡ false
-one-refused r l e = fails (rules.good r 0) (λ g. refused-not-fine (sym e ∙ one-good-iff r l .1 g))
+-- ten words are wholly lent as a rule, so its fields decide
+pub one-good : (r : List ℕ) → length r ≡ ruleWords → rules.ruleGood r 0 ≡ rules.good r 0
+one-good r l = sym (good-decides r 0 (lt-ltb 0 (ruleCount r) (omega arith)))

@@ -1,28 +1,31 @@
--- From passes over a text to what the reader answers: the first, on no room, judges and counts; the second writes.
-use Prim.Native.Nat.{ℕ, _*_, _≤_, _<_}
+-- From the lines of a text to what the reader answers: their words are read into words of their own, then judged as a
+-- list, and then stored if there is room.
+use Prim.Native.Nat.{ℕ, _*_, _≤_}
 use native.Mathlib.Omega.{arith}
-use mathlib.Core.List.{List, _∷_, [], _++_}
+use mathlib.Core.List.{List}
 use mathlib.Core.Path.{_≡_, refl, sym, ap, _∙_}
-use lib.ListN.{length}
-use lib.Seq.{sets}
-use Rattle.facts.specs.Lists.{written}
-use Rattle.facts.proofs.Setting.{none-before}
+use lib.ListN.{length, take}
+use Rattle.facts.proofs.Setting.{written-front}
 use Rattle.refusals.specs.declared.Refusal.{Refusal}
-use Rattle.refusals.specs.declared.Refusal.the-variants.{OutputShort}
-use Rattle.refusals.specs.Paper.{success}
+use Rattle.refusals.specs.declared.Verdict.{Verdict}
+use Rattle.refusals.specs.declared.Verdict.the-variants as verdict
 use Rattle.refusals.specs.Promises.{Apart}
-use Rattle.refusals.proofs.Order.{room-short, room-fine-iff}
+use Rattle.refusals.proofs.Order.{then-fine, then-refused, giving-refused}
 use Rattle.refusals.proofs.Unique.{on-paper-unique, refusal-not-success}
-use Rattle.refusals.proofs.Promises.{writes-refused, writes-fine}
+use Rattle.refusals.proofs.Promises.{writes-refused, left-found}
 use Rattle.refusals.proofs.Rooms.{sets-written}
-use Rattle.text.specs.Text.{refused}
-use Rattle.text.proofs.Runs.{refused-good}
-use Rattle.rules.specs.Words.{ruleWords, ruleCount}
+use Rattle.text.specs.Text.{Reading, good, refused}
+use Rattle.rules.specs.Words.{ruleWords, mostRules}
+use Rattle.rules.specs.Twins.{twinsVerdict}
+use Rattle.rules.specs.Good.{listVerdict}
+use Rattle.rules.proofs.Lists.{rules-fine-iff, twins-decide}
 use Rattle.rule_file.specs.declared.read.Read.{Read}
 use Rattle.rule_file.specs.declared.read.Read.the-variants.{Refused, Rules}
-use Rattle.rule_file.specs.RuleText.{rulesIn}
-use Rattle.rule_file.specs.Reading.{paper, wordsIn, RulesRead}
-use Rattle.rule_file.specs.ReadSteps.{RulesStored, PassRead}
+use Rattle.rule_file.specs.RuleText.{linesIn}
+use Rattle.rule_file.specs.Reading.{paper, RulesRead}
+use Rattle.rule_file.specs.ReadSteps.{RulesStored, WordsTaken}
+use Rattle.rule_file.proofs.ReadTwins.{reads-of-lines, twins-of-lines, refused-of-lines}
+use Rattle.rule_file.proofs.RoundTrips.{lines-good}
 
 -- the paper tells the answers apart
 pub read-apart : Apart paper
@@ -31,33 +34,31 @@ read-apart (Refused a) (Rules n) e = refusal-not-success e
 read-apart (Rules m) (Refused b) e = refusal-not-success (sym e)
 read-apart (Rules m) (Rules n) e = cc
 
-module _ (s kept : List ℕ) {before : List ℕ} (none : length kept ≡ 0) where
-  same : kept ++ before ≡ before
-  same = none-before kept before none
+module _ (s : List ℕ) {before : List ℕ} where
+  -- a text whose lines are refused is refused by the reader
+  pub text-refused : {why : Refusal} → linesIn s ≡ refused why → RulesRead s before (Refused why) before
+  text-refused {why} e = writes-refused {why = why} (rw (refused-of-lines s e)) refl refl
 
-  -- a text that is refused is refused by the reader
-  pub text-refused : {why : Refusal} → rulesIn s ≡ refused why → RulesRead s before (Refused why) (kept ++ before)
-  text-refused {why} e = writes-refused {why = why} (rw e) refl same
+  -- of the words of lines that read well, what comes of them is what the reader answers
+  pub words-answer :
+      (ws : List ℕ) {r : Read} {after : List ℕ} → linesIn s ≡ good ws → WordsTaken ws before r after →
+      RulesRead s before r after
+  words-answer ws {r} {after} e w = go (twinsVerdict ws) refl
+    where
+      list : listVerdict ws ≡ twinsVerdict ws
+      list = twins-decide ws (rules-fine-iff ws .1 (lines-good s ws e))
 
-  module _ {old : List ℕ} {n : ℕ} (p : RulesStored (rulesIn s) old kept n) where
-    -- words for which there is no room are refused with their number
-    pub room-refused :
-        {needed : ℕ} → needed ≡ n * ruleWords → length (kept ++ before) < needed →
-        RulesRead s before (Refused (OutputShort needed 0)) (kept ++ before)
-    room-refused {needed} e h =
-        let short = room-short _ (length before) (e ∙ sym (p .size)) (rw same at h) in
-        writes-refused {why = OutputShort needed 0} (rw (p .says) (sym short)) refl same
+      go : (v : Verdict) → twinsVerdict ws ≡ v → RulesRead s before r after
+      go verdict.Fine t = rw (reads-of-lines s ws e t) (rw (then-fine _ (list ∙ t)) at w)
+      go (verdict.Refused why) t =
+          let said = then-refused _ (list ∙ t) in
+          rw (twins-of-lines s ws e t)
+          (writes-refused {why = why} refl (w .answers ∙ giving-refused _ said) (left-found w said))
 
-    -- with room for them, the second pass is what the reader answers
-    pub read-again :
-        {after : List ℕ} (r : Read) → n * ruleWords ≤ length (kept ++ before) →
-        PassRead (rulesIn s) (kept ++ before) after r → RulesRead s before r after
-    read-again (Refused why) h q = refused-good (sym q ∙ p .says)
-    read-again {after} (Rules m) h q =
-        let ws : List ℕ = q .words in
-        let words : p .words ≡ ws = (let e = sym (p .says) ∙ q .says in cc) in
-        let room : length ws ≤ length before = omega (arith, p .size, ap length words, ap length same) in
-        let count : m ≡ ruleCount ws = omega (arith, q .size) in
-        let stored = q .rules-are ∙ ap (λ (l : List ℕ). sets l 0 ws) same ∙ sets-written ws before room in
-        writes-fine (rw (q .says) (room-fine-iff _ _ .1 room)) (rw (q .says) (ap (λ (k : ℕ). success (k ∷ [])) count))
-        (stored ∙ ap (λ (a : _). written (wordsIn a) before) (sym (q .says)))
+-- the words that lines were stored as, in words of their own with room for all
+pub stored-front :
+    {a : Reading (List ℕ)} {old new : List ℕ} {n : ℕ} (p : RulesStored a old new n) → length old ≡ mostRules * ruleWords →
+    take (n * ruleWords) new ≡ p .words
+stored-front {a} {old} {new} {n} p room =
+    let fits : length (p .words) ≤ length old = omega (arith, p .size, p .few) in
+    rw (p .rules-are ∙ sets-written (p .words) old fits) (written-front (p .words) old (n * ruleWords) (p .size))

@@ -21,7 +21,7 @@ use Rattle.text.proofs.Onward.{top-stands, next-stands, on-next, on-wrong, not-
 use Rattle.rules.specs.Words.{ruleWords, mostRules}
 use Rattle.rule_file.specs.Records.{ruleOf, ruleFits}
 use Rattle.rule_file.specs.ListText.{State, start, within, finish, listIn}
-use Rattle.rule_file.specs.RuleText.{rulesIn}
+use Rattle.rule_file.specs.RuleText.{linesIn}
 use Rattle.rule_file.specs.ReadSteps.{rulesStep, rulesFrom, RulesAnnounced, RuleStored}
 use Rattle.rule_file.proofs.Filled.{filled-all}
 use Rattle.rule_file.proofs.Records.{rule-length}
@@ -41,7 +41,7 @@ all-read {w = w} t = t .holds ∙ padded-all (t .vs) (line-exact w ruleMarks (t 
 abbrev top : Cursor
 top = cursorAt 0 0
 
-from-start : (s : List ℕ) → rulesIn s ≡ rulesFrom start s top
+from-start : (s : List ℕ) → linesIn s ≡ rulesFrom start s top
 unfolding listIn
 from-start s = refl
 
@@ -64,13 +64,13 @@ module _ {s : List ℕ} (small : length s < 2 ^ 63) where
         }
 
     -- a first line of more rules is wrong
-    pub first-wrong : {why : Refusal} → mostRules < getD values 0 0 → why ≡ wrongAt 0 → rulesIn s ≡ refused why
+    pub first-wrong : {why : Refusal} → mostRules < getD values 0 0 → why ≡ wrongAt 0 → linesIn s ≡ refused why
     first-wrong h q =
         let e : rulesStep start (t .this) ≡ none = rw (t .read, ← count, lt-leb (getD values 0 0) mostRules h) in
         from-start s ∙ on-wrong small (top-stands s) rulesStep finish start (t .next) e q
 
   -- where no first line was taken, the text is refused
-  pub first-not : {why : Refusal} → LineRefused s top rulesWord oneTab why → rulesIn s ≡ refused why
+  pub first-not : {why : Refusal} → LineRefused s top rulesWord oneTab why → linesIn s ≡ refused why
   first-not r = from-start s ∙ not-taken small (top-stands s) rulesStep finish start r refl (λ l e. rw e)
 
 -- ---- the line of a rule

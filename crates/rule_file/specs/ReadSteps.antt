@@ -7,24 +7,30 @@
 --   RuleLineRead s c i old new r    r is that cursor, or the refusal there, whatever was read before
 --   RulesStored a old new n     the reading a came to n rules, and their words are stored, as far as there is room
 --   PassRead a old new r        r is what the reading a comes to
+--   WordsTaken ws before r after    r is what comes of the words ws of rules: 11 for twins, then 4, else
+--                               they stand in front
 use Prim.Native.Nat.{ℕ, _+_, _*_, _≤_, _<_}
-use mathlib.Core.List.{List, [], _++_}
+use mathlib.Core.List.{List, [], _∷_, _++_}
 use mathlib.Core.Option.{Option}
 use mathlib.Core.Path.{_≡_}
 use lib.ListN.{length}
 use lib.Seq.{sets}
+use Rattle.refusals.specs.Order.{roomVerdict, _then_}
+use Rattle.refusals.specs.Promises.{Writes}
 use Rattle.text.specs.declared.cursor.Cursor.{Cursor}
 use Rattle.text.specs.declared.cursor.Step.{Step}
 use Rattle.text.specs.declared.cursor.Step.the-variants as said
 use Rattle.text.specs.Text.{Reading, good, refused}
 use Rattle.text.specs.Onward.{Stands}
-use Rattle.rules.specs.Words.{ruleWords, mostRules}
+use Rattle.rules.specs.Words.{ruleWords, mostRules, ruleCount}
+use Rattle.rules.specs.Good.{listVerdict}
 use Rattle.rule_file.specs.declared.read.Read.{Read}
 use Rattle.rule_file.specs.declared.read.Read.the-variants.{Refused, Rules}
 use Rattle.rule_file.specs.declared.read.First.{First}
 use Rattle.rule_file.specs.declared.read.First.the-variants as first
 use Rattle.rule_file.specs.ListText.{State, within, step, listFrom}
-use Rattle.rule_file.specs.RuleText.{rulesFormat, rulesIn}
+use Rattle.rule_file.specs.RuleText.{rulesFormat, linesIn}
+use Rattle.rule_file.specs.Reading.{paper}
 
 abbrev pub rulesStep : State → List ℕ → Option State
 rulesStep st l = step rulesFormat st l
@@ -36,12 +42,12 @@ abbrev pub restFrom : ℕ → List ℕ → Cursor → Reading (List ℕ)
 restFrom n s c = rulesFrom (within n 0 []) s c
 
 pub record RulesAnnounced (s : List ℕ) (n : ℕ) (d : Cursor) : Type 0 where
-  pub moved : rulesIn s ≡ restFrom n s d
+  pub moved : linesIn s ≡ restFrom n s d
   pub stands : Stands s d
   pub few : n ≤ mostRules
 
 abbrev pub FirstLineRead : List ℕ → First → Type 0
-FirstLineRead s (first.Refused why) = rulesIn s ≡ refused why
+FirstLineRead s (first.Refused why) = linesIn s ≡ refused why
 FirstLineRead s (first.Announces n d) = RulesAnnounced s n d
 
 pub record RuleStored (s : List ℕ) (c : Cursor) (i : ℕ) (old new : List ℕ) (d : Cursor) : Type 0 where
@@ -67,3 +73,7 @@ pub record RulesStored (a : Reading (List ℕ)) (old new : List ℕ) (n : ℕ) :
 abbrev pub PassRead : Reading (List ℕ) → List ℕ → List ℕ → Read → Type 0
 PassRead a old new (Refused why) = a ≡ refused why
 PassRead a old new (Rules n) = RulesStored a old new n
+
+abbrev pub WordsTaken : List ℕ → List ℕ → Read → List ℕ → Type 0
+WordsTaken ws before r after =
+    Writes paper (listVerdict ws then roomVerdict (length ws) (length before)) (ruleCount ws ∷ []) ws before r after

@@ -1,7 +1,7 @@
 -- Reading a rule file. Definitions only.
 --   paper                an answer of the reader, on paper: the number of rules
 --   wordsIn a            the words of a reading that came to its end; none where it was refused
---   readVerdict a room   the reading's own refusal, 9 or 10, then 4 where the room is less than its words
+--   readVerdict a room   the reading's own refusal, 9, 10 or 11, then 4 where the room is less than its words
 --   RulesRead            the promise: the words of the text stand in front, or it is refused
 use Prim.Native.Nat.{ℕ}
 use mathlib.Core.List.{List, [], _∷_}

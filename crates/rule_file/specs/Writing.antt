@@ -1,5 +1,5 @@
 -- Writing a rule file. Definitions only.
---   writeVerdict ws room   1, 2, then 4 where the room is less than the bytes of the text
+--   writeVerdict ws room   1, 2, 11, then 4 where the room is less than the bytes of the text
 --   RulesWritten           the promise: the text of the list stands in front, or it is refused
 use Prim.Native.Nat.{ℕ}
 use mathlib.Core.List.{List, [], _∷_}

@@ -2,7 +2,10 @@
 use crate::record::rule_fits;
 use crate::record::rule_of;
 use crate::record::store_rule;
+use lent::store_all;
 use refusals::Refusal;
+use refusals::Verdict;
+use rules::check::list_verdict;
 use rules::words::MOST_RULES;
 use rules::words::RULE_WORDS;
 use text::cursor::Cursor;
@@ -17,9 +20,10 @@ use text::words::RULES;
 ghost use Prim.Native.Nat.{_≤_, _<_};
 ghost use Rattle.rules.specs.Words.{mostRules};
 ghost use Rattle.text.specs.Onward.{Stands};
-ghost use Rattle.rule_file.specs.RuleText.{rulesIn};
+ghost use Rattle.rule_file.specs.RuleText.{linesIn};
 ghost use Rattle.rule_file.specs.Reading.{RulesRead};
-ghost use Rattle.rule_file.specs.ReadSteps.{restFrom, FirstLineRead, RuleLineRead, PassRead};
+ghost use Rattle.rule_file.specs.ReadSteps.{restFrom, FirstLineRead, RuleLineRead};
+ghost use Rattle.rule_file.specs.ReadSteps.{PassRead, WordsTaken};
 
 pub enum Read {
     Refused(Refusal),
@@ -33,25 +37,46 @@ pub enum First {
 }
 
 // The words of the rules that a text holds, from the front of `rules` on; the rest of `rules` is as found. The text is
-// judged whole before the room is, and a refusal writes nothing.
+// judged whole before twins are looked for and the room is judged, so its words are read into words of their own. A
+// refusal writes nothing.
 pub fn rules_read(text: &[u8], rules: &mut [u32]) -> Read
     ensures { λ r. ⌜ RulesRead (now (text .entry)) (now (rules .entry)) r (now (rules .exit)) ⌝ }
 {
-    match read_pass(text, &mut rules[..0]) {
+    let mut words = [0u32; MOST_RULES * RULE_WORDS];
+    match read_lines(text, &mut words) {
         Read::Refused(why) => Read::Refused(why),
         Read::Rules { rules: count } => {
-            let needed = count * RULE_WORDS;
-            if rules.len() < needed {
-                return Read::Refused(Refusal::OutputShort { needed, output: 0 });
-            }
-            read_pass(text, rules)
+            let end = count * RULE_WORDS;
+            take_words(&words[..end], rules)
         }
     }
 }
 
-// One pass: judges the text, counts its rules, and stores their words as far as there is room.
-fn read_pass(text: &[u8], rules: &mut [u32]) -> Read
-    ensures { λ r. ⌜ PassRead (rulesIn (now (text .entry))) (now (rules .entry)) (now (rules .exit)) r ⌝ }
+// Stores the words of the rules of a text, where no two are twins and there is room for all. Each rule is good, so the
+// list is refused for twins alone.
+fn take_words(words: &[u32], rules: &mut [u32]) -> Read
+    ensures { λ r. ⌜ WordsTaken (now (words .entry)) (now (rules .entry)) r (now (rules .exit)) ⌝ }
+{
+    match list_verdict(words) {
+        Verdict::Refused(why) => Read::Refused(why),
+        Verdict::Fine => {
+            if rules.len() < words.len() {
+                return Read::Refused(Refusal::OutputShort {
+                    needed: words.len(),
+                    output: 0,
+                });
+            }
+            store_all(rules, 0, words);
+            Read::Rules {
+                rules: words.len() / RULE_WORDS,
+            }
+        }
+    }
+}
+
+// Judges the lines of a text, counts its rules, and stores their words as far as there is room.
+fn read_lines(text: &[u8], rules: &mut [u32]) -> Read
+    ensures { λ r. ⌜ PassRead (linesIn (now (text .entry))) (now (rules .entry)) (now (rules .exit)) r ⌝ }
 {
     match first_line(text) {
         First::Refused(why) => Read::Refused(why),

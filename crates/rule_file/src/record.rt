@@ -1,7 +1,6 @@
 // One rule as the numbers of its line, and as the ten words of a list.
 use lent::store;
-use refusals::Verdict;
-use rules::check::list_verdict;
+use rules::check::rule_good;
 use rules::words::RULE_WORDS;
 use text::address::address_of;
 use text::address::octets_fit;
@@ -12,7 +11,6 @@ ghost use lib.ListN.{length};
 ghost use lib.Seq.{sets};
 ghost use Rattle.text.specs.Addresses.{octetsOf};
 ghost use Rattle.rules.specs.Words.{ruleWords, mostRules};
-ghost use Rattle.rules.specs.Good.{good};
 ghost use Rattle.rule_file.specs.Records.{ruleOf, ruleValues, ruleFits, ruleAt};
 
 // Whether the numbers of a line are those of rule `i`: its number, octets, and a good rule.
@@ -28,17 +26,8 @@ pub(crate) fn rule_fits(i: usize, values: [u32; MOST_FIELDS]) -> bool
     if !octets_fit(values[6], values[7], values[8], values[9]) {
         return false;
     }
-    rule_good(rule_of(values))
-}
-
-// Whether ten words are a good rule.
-fn rule_good(rule: [u32; RULE_WORDS]) -> bool
-    ensures { λ t. ⌜ t ≡ good rule 0 ⌝ }
-{
-    match list_verdict(&rule) {
-        Verdict::Fine => true,
-        Verdict::Refused(_) => false,
-    }
+    let rule = rule_of(values);
+    rule_good(&rule, 0)
 }
 
 // The ten words of the rule with these numbers.

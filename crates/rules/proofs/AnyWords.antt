@@ -1,4 +1,5 @@
--- Matching for any words: a rule that is not there, or a header of another length, does not match.
+-- Rules in any words: one that is not there is not good and does not match, nor does one match a header of another
+-- length.
 use Prim.Native.Nat.{ℕ, _<_}
 use mathlib.Core.Bool.{true, false}
 use mathlib.Core.Path.{_≡_}
@@ -7,7 +8,19 @@ use lib.ListN.{length}
 use borrow.Author.Tests.{lt-ltb, eq-eqb, ne-eqb}
 use Rattle.fields.specs.Words.{fieldCount}
 use Rattle.rules.specs.Words.{ruleCount, ruleThere}
+use Rattle.rules.specs.Good.{good, ruleGood}
 use Rattle.rules.specs.Matching.{matches, ruleMatches}
+
+module _ (rs : List ℕ) (r : ℕ) where
+  -- a rule that is not wholly lent is not good
+  pub not-there-not-good : ruleThere rs r ≡ false → false ≡ ruleGood rs r
+  unfolding ruleGood
+  not-there-not-good e = rw e
+
+  -- of one that is, its fields decide
+  pub good-decides : ruleThere rs r ≡ true → good rs r ≡ ruleGood rs r
+  unfolding ruleGood
+  good-decides e = rw e
 
 module _ (rs h : List ℕ) (r : ℕ) where
   -- a rule that is not wholly lent does not match

@@ -1,5 +1,9 @@
--- Laws of lists of rules: what is good, what a rule means, the ends of its fields, what entries lack, what the searches
+-- Laws of lists of rules: which are twins, what is good, what a rule means, the ends of its fields, what entries lack, what the searches
 -- say and list, and that promises are exact.
+pub mod EqualWords
+pub mod TwinRules
+pub mod Chains
+pub mod Chaining
 pub mod Lists
 pub mod Forms
 pub mod Meaning

@@ -1,28 +1,37 @@
--- Lists of rules: the tests one by one, and what a good list is.
+-- Lists of rules: the tests one by one, when a list is fine, and when it is refused with 11.
 use Prim.Native.Nat.{ℕ, _*_, _%_, _≤_, _<_}
+use native.Mathlib.Omega.{arith}
 use mathlib.Core.Bool.{true, false}
-use mathlib.Core.Path.{_≡_, sym, _∙_}
-use mathlib.Core.Logic.{_↔_}
+use mathlib.Core.Path.{_≡_, refl, sym, ap, _∙_}
+use mathlib.Core.Logic.{_⊎_, inl, inr, _↔_}
 use mathlib.Core.List.{List}
 use lib.ListN.{length}
 use borrow.Author.Tests.{leb-true, le-leb, lt-leb, eqb-true, eq-eqb, ne-eqb}
-use Rattle.refusals.specs.declared.Refusal.the-variants.{RuleWordsWrong, RuleNotGood}
+use Rattle.refusals.specs.declared.Refusal.{Refusal}
+use Rattle.refusals.specs.declared.Refusal.the-variants.{RuleWordsWrong, RuleNotGood, RuleHasTwin}
+use Rattle.refusals.specs.declared.Verdict.{Verdict}
 use Rattle.refusals.specs.declared.Verdict.the-variants.{Fine, Refused}
 use Rattle.refusals.specs.Order.{_then_, inTurn}
-use Rattle.refusals.proofs.Order.{holds-fine, fails-refused, fine-iff-holds, then-fine, then-refused, then-fine-iff}
+use Rattle.refusals.specs.Table.{numberOf}
+use Rattle.refusals.proofs.Order.{holds-fine, fails-refused, fine-iff-holds}
+use Rattle.refusals.proofs.Order.{then-fine, then-refused, then-fine-iff, then-cases}
 use Rattle.refusals.proofs.Turns.{turns-fine-iff}
+use Rattle.refusals.proofs.Only.{Only, only-said, unless-only, then-only, turns-only}
 use Rattle.rules.specs.Words.{ruleWords, mostRules, ruleCount}
-use Rattle.rules.specs.Good.{good, ruleVerdict, listVerdict}
+use Rattle.rules.specs.Twins.{twinsVerdict, Alike, NoTwins, FirstTwins}
+use Rattle.rules.specs.Good.{good, ruleVerdict, rulesVerdict, listVerdict}
+use Rattle.rules.proofs.TwinRules.{twins-fine-iff, twins-of-refused, twins-refused-iff}
 
 module _ (rs : List ℕ) where
   -- words that are not whole rules are refused
-  pub not-whole : (length rs % ruleWords ≡ 0 → ⊥) → Refused RuleWordsWrong ≡ listVerdict rs
-  unfolding listVerdict
+  pub not-whole : (length rs % ruleWords ≡ 0 → ⊥) → Refused RuleWordsWrong ≡ rulesVerdict rs
+  unfolding rulesVerdict
   not-whole e = sym (then-refused _ (fails-refused _ (ne-eqb (length rs % ruleWords) 0 e)))
 
   -- too many words are refused
-  pub too-many : length rs % ruleWords ≡ 0 → mostRules * ruleWords < length rs → Refused RuleWordsWrong ≡ listVerdict rs
-  unfolding listVerdict
+  pub too-many :
+      length rs % ruleWords ≡ 0 → mostRules * ruleWords < length rs → Refused RuleWordsWrong ≡ rulesVerdict rs
+  unfolding rulesVerdict
   too-many e l =
       sym
       (then-fine _ (holds-fine _ (eq-eqb (length rs % ruleWords) 0 e)) ∙
@@ -31,8 +40,8 @@ module _ (rs : List ℕ) where
   -- of whole rules, not too many, the rules decide in turn
   pub rules-decide :
       length rs % ruleWords ≡ 0 → length rs ≤ mostRules * ruleWords →
-      listVerdict rs ≡ inTurn (ruleCount rs) 0 (ruleVerdict rs)
-  unfolding listVerdict
+      rulesVerdict rs ≡ inTurn (ruleCount rs) 0 (ruleVerdict rs)
+  unfolding rulesVerdict
   rules-decide e l =
       then-fine _ (holds-fine _ (eq-eqb (length rs % ruleWords) 0 e)) ∙
       then-fine _ (holds-fine _ (le-leb (length rs) (mostRules * ruleWords) l))
@@ -47,18 +56,18 @@ module _ (rs : List ℕ) where
   unfolding ruleVerdict
   rule-fine r e = holds-fine _ e
 
-  -- a good list: whole rules, not too many, each of them good
-  pub record GoodList : Type 0 where
+  -- good rules: the words are whole rules, not too many, each of them good
+  pub record GoodRules : Type 0 where
     pub whole : length rs % ruleWords ≡ 0
     pub few : length rs ≤ mostRules * ruleWords
     pub each : (r : ℕ) → r < ruleCount rs → good rs r ≡ true
 
-  -- a list is fine exactly where it is good
-  pub fine-iff-good : (listVerdict rs ≡ Fine) ↔ GoodList
-  unfolding listVerdict ruleVerdict
-  fine-iff-good = (to, of)
+  -- nothing before twins refuses a list exactly where its rules are good
+  pub rules-fine-iff : (rulesVerdict rs ≡ Fine) ↔ GoodRules
+  unfolding rulesVerdict ruleVerdict
+  rules-fine-iff = (to, of)
     where
-      to : listVerdict rs ≡ Fine → GoodList
+      to : rulesVerdict rs ≡ Fine → GoodRules
       to e =
           let t = then-fine-iff _ _ .0 e in
           let u = then-fine-iff _ _ .0 (t .1) in
@@ -68,5 +77,76 @@ module _ (rs : List ℕ) where
             each = λ r l. fine-iff-holds _ _ .0 (turns-fine-iff _ _ .0 (u .1) r l);
           }
 
-      of : GoodList → listVerdict rs ≡ Fine
+      of : GoodRules → rulesVerdict rs ≡ Fine
       of g = rules-decide (g .whole) (g .few) ∙ turns-fine-iff _ _ .1 (λ r l. rule-fine r (g .each r l))
+
+  -- what refuses a list before twins do is its refusal
+  pub rules-refuse : {why : Refusal} → rulesVerdict rs ≡ Refused why → listVerdict rs ≡ Refused why
+  unfolding listVerdict
+  rules-refuse e = then-refused _ e
+
+  -- where nothing does, twins decide
+  pub twins-decide : rulesVerdict rs ≡ Fine → listVerdict rs ≡ twinsVerdict rs
+  unfolding listVerdict
+  twins-decide e = then-fine _ e
+
+  -- a list is fine exactly where nothing before twins refuses it and it has none
+  pub fine-iff-apart : (listVerdict rs ≡ Fine) ↔ ((rulesVerdict rs ≡ Fine) × NoTwins rs)
+  unfolding listVerdict
+  fine-iff-apart = (
+    λ e. let t = then-fine-iff _ _ .0 e in (t .0, twins-fine-iff rs .0 (t .1)),
+    λ g. then-fine-iff _ _ .1 (g .0, twins-fine-iff rs .1 (g .1)),
+  )
+
+  -- so it is exactly where its rules are good and it has no twins
+  pub fine-iff-good : (listVerdict rs ≡ Fine) ↔ (GoodRules × NoTwins rs)
+  fine-iff-good = (
+    λ e. let t = fine-iff-apart .0 e in (rules-fine-iff .0 (t .0), t .1),
+    λ g. fine-iff-apart .1 (rules-fine-iff .1 (g .0), g .1),
+  )
+
+  -- the rules of a list that is fine are good
+  pub good-of-fine : listVerdict rs ≡ Fine → GoodRules
+  good-of-fine e = fine-iff-good .0 e .0
+
+  -- ---- 11
+
+  -- what refuses before twins do is 1 or 2
+  pub rules-only : Only (λ why. numberOf why ≤ 2) (rulesVerdict rs)
+  unfolding rulesVerdict ruleVerdict
+  rules-only =
+      then-only (unless-only _ RuleWordsWrong (omega arith))
+      (then-only (unless-only _ RuleWordsWrong (omega arith))
+      (turns-only _ _ _ (λ r. unless-only _ (RuleNotGood r) (omega arith))))
+
+  -- a list is refused with 11, place r and extra q, exactly where nothing before refuses it and those are its first
+  -- twins
+  pub eleven-at-iff :
+      (r q : ℕ) → (listVerdict rs ≡ Refused (RuleHasTwin r q)) ↔ ((rulesVerdict rs ≡ Fine) × FirstTwins rs r q)
+  unfolding listVerdict
+  eleven-at-iff r q =
+      (λ e. to (then-cases _ _ e), λ g. twins-decide (g .0) ∙ twins-refused-iff rs r q .1 (g .1))
+    where
+      to :
+          (rulesVerdict rs ≡ Refused (RuleHasTwin r q)) ⊎
+          ((rulesVerdict rs ≡ Fine) × (twinsVerdict rs ≡ Refused (RuleHasTwin r q))) →
+          (rulesVerdict rs ≡ Fine) × FirstTwins rs r q
+      to (inl e) = absurd (omega (arith, only-said rules-only e))
+      to (inr e) = (e .0, twins-refused-iff rs r q .0 (e .1))
+
+  -- it is refused with 11 exactly where nothing before refuses it and two of its rules have equal words
+  pub eleven-iff :
+      ((r : ℕ) × (q : ℕ) × (listVerdict rs ≡ Refused (RuleHasTwin r q))) ↔
+      ((rulesVerdict rs ≡ Fine) × ((r : ℕ) × (q : ℕ) × Alike rs q r))
+  unfolding listVerdict
+  eleven-iff = (
+    λ s. let t = eleven-at-iff (s .0) (s .1) .0 (s .2) in (t .0, (s .0, s .1, t .1 .twins)),
+    λ g. of (twinsVerdict rs) refl (g .0) (g .1 .0) (g .1 .1) (g .1 .2),
+  )
+    where
+      of :
+          (v : Verdict) → twinsVerdict rs ≡ v → rulesVerdict rs ≡ Fine → (r q : ℕ) → Alike rs q r →
+          (r : ℕ) × (q : ℕ) × (listVerdict rs ≡ Refused (RuleHasTwin r q))
+      of Fine t g r q w = absurd (twins-fine-iff rs .0 t q r w)
+      of (Refused why) t g r q w =
+          let f = twins-of-refused rs t in (f .0, f .1, eleven-at-iff (f .0) (f .1) .1 (g, f .3))

@@ -29,7 +29,7 @@ use Rattle.rules.specs.LineAll.{allVerdict, LineAllSearched}
 use Rattle.rules.specs.LineFirst.{firstOf, LineFirstSearched}
 use Rattle.rules.specs.Scan.{mostScanned, scanCount, scanned, scanVerdict, ScanAllSearched, ScanFirstSearched}
 use Rattle.rules.specs.ScanSteps.{MatchesListed, FirstIs}
-use Rattle.rules.proofs.Lists.{fine-iff-good}
+use Rattle.rules.proofs.Lists.{good-of-fine}
 
 -- a legal header has five words
 pub five-words : (h : List ℕ) → headerVerdict h ≡ Fine → length h ≡ fieldCount
@@ -37,7 +37,7 @@ five-words h e = legal-iff h .0 e .0
 
 -- a good list has at most `mostRules` rules
 few-rules : (rs : List ℕ) → listVerdict rs ≡ Fine → ruleCount rs ≤ mostRules
-few-rules rs e = let g = fine-iff-good rs .0 e in omega (arith, g .whole, g .few)
+few-rules rs e = let g = good-of-fine rs e in omega (arith, g .whole, g .few)
 
 -- a scan looks at no more rules than there are
 pub scan-count-at-most : (rs : List ℕ) → scanCount rs ≤ ruleCount rs

@@ -1,9 +1,11 @@
--- Lists of rules, the ends of their fields, and the promises of the rule check and the line search.
+-- Lists of rules, twins among them, the ends of their fields, and the promises of the rule check and the line search.
 pub mod Words
+pub mod Twins
 pub mod Good
 pub mod Matching
 pub mod Bounds
 pub mod Lacking
+pub mod Chains
 pub mod RuleCheck
 pub mod LineAll
 pub mod LineFirst

@@ -2,7 +2,7 @@
 --   paper                   an answer of the search, on paper: how many numbers it wrote
 --   Lists v ms before r after    what v refuses; else r says how many numbers ms has, and they stand in front of the
 --                           lent words, the rest as found
---   allVerdict rs h room    1, 2, 3, then 4 where the room is less than the number of matches
+--   allVerdict rs h room    1, 2, 11, 3, then 4 where the room is less than the number of matches
 --   LineAllSearched         the promise: it lists the matching numbers
 use Prim.Native.Nat.{ℕ}
 use mathlib.Core.List.{List, [], _∷_}

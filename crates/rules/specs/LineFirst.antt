@@ -1,7 +1,7 @@
 -- The line search for the first match. Definitions only.
 --   paper            an answer of the search, on paper: the number of the first match, or no value for none
 --   firstOf ms       the same for the first of the numbers ms; the tree search says it so too
---   LineFirstSearched    the promise: 1, 2, 3; else the lowest number that matches
+--   LineFirstSearched    the promise: 1, 2, 11, 3; else the lowest number that matches
 use Prim.Native.Nat.{ℕ}
 use mathlib.Core.List.{List, [], _∷_}
 use Rattle.refusals.specs.Paper.{Paper, success, onPaper}

@@ -1,6 +1,6 @@
 -- The rule check. Definitions only.
 --   paper          an answer of the rule check, on paper: the number of rules
---   RuleChecked    the promise: 1, 2; else the number of rules
+--   RuleChecked    the promise: 1, 2, 11; else the number of rules
 use Prim.Native.Nat.{ℕ}
 use mathlib.Core.List.{List, [], _∷_}
 use Rattle.refusals.specs.Paper.{Paper, success, onPaper}

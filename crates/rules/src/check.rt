@@ -1,7 +1,9 @@
-// The rule check: whether a list holds whole rules, not too many, and each of them good.
+// The rule check: whether a list holds whole rules, not too many, each of them good, and no two alike.
+use crate::twins::twins_verdict;
 use crate::words::MOST_RULES;
 use crate::words::RULE_WORDS;
 use crate::words::field_of;
+use crate::words::rule_there;
 use fields::field::field_good;
 use fields::header::FIELDS;
 use refusals::Refusal;
@@ -9,7 +11,7 @@ use refusals::Verdict;
 ghost use Prim.Native.Nat.{_<_};
 ghost use mathlib.Core.Path.{_≡_};
 ghost use Rattle.rules.specs.Words.{ruleCount};
-ghost use Rattle.rules.specs.Good.{good, listVerdict};
+ghost use Rattle.rules.specs.Good.{good, ruleGood, rulesVerdict, listVerdict};
 ghost use Rattle.rules.specs.RuleCheck.{RuleChecked};
 
 pub enum Checked {
@@ -29,9 +31,19 @@ pub fn rule_check(rules: &[u32]) -> Checked
     }
 }
 
-// Whether a list is good. The number of words is looked at first, and then the rules, from the lowest.
+// Whether a list is good: its words and its rules first, and then twins.
 pub fn list_verdict(rules: &[u32]) -> Verdict
-    ensures { λ r. ⌜ r ≡ listVerdict (now (rules .entry)) ⌝ }
+    ensures { λ v. ⌜ v ≡ listVerdict (now (rules .entry)) ⌝ }
+{
+    match rules_verdict(rules) {
+        Verdict::Refused(why) => Verdict::Refused(why),
+        Verdict::Fine => twins_verdict(rules),
+    }
+}
+
+// Whether a list is good, twins aside. The number of words is looked at first, and then the rules, from the lowest.
+fn rules_verdict(rules: &[u32]) -> Verdict
+    ensures { λ v. ⌜ v ≡ rulesVerdict (now (rules .entry)) ⌝ }
 {
     if rules.len() % RULE_WORDS != 0 {
         return Verdict::Refused(Refusal::RuleWordsWrong);
@@ -48,6 +60,16 @@ pub fn list_verdict(rules: &[u32]) -> Verdict
         rule += 1;
     }
     Verdict::Fine
+}
+
+// Whether rule `r` is wholly lent and good.
+pub fn rule_good(rules: &[u32], r: usize) -> bool
+    ensures { λ g. ⌜ g ≡ ruleGood (now (rules .entry)) r ⌝ }
+{
+    if !rule_there(rules, r) {
+        return false;
+    }
+    good(rules, r)
 }
 
 // Whether rule `r` is good, field by field.

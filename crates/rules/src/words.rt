@@ -79,7 +79,7 @@ pub(crate) fn field_of(rules: &[u32], r: usize, f: usize) -> Field
 }
 
 // Word `j` of rule `r`.
-fn word_of(rules: &[u32], r: usize, j: usize) -> u32
+pub(crate) fn word_of(rules: &[u32], r: usize, j: usize) -> u32
     requires { ⌜ (r < ruleCount (now rules)) × (j < ruleWords) ⌝ }
     ensures { λ w. ⌜ w ≡ wordOf (now (rules .entry)) r j ⌝ }
 {

@@ -8,6 +8,7 @@ pub mod Counted
 pub mod Plain
 pub mod Texts
 pub mod Runs
+pub mod Refusing
 pub mod Cut
 pub mod Addresses
 pub mod Places

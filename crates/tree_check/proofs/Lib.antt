@@ -1,5 +1,4 @@
 -- Laws of the tree check: the check of a part, node by node, and what it accepts.
-pub mod Only
 pub mod NotLack
 pub mod Parts
 pub mod Looking

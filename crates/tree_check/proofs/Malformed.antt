@@ -21,7 +21,7 @@ use Rattle.tree_check.specs.declared.check.TreeAnswer.the-variants.{Refu
 use Rattle.tree_check.specs.Whole.{mostCuts, WellFormed}
 use Rattle.tree_check.specs.TreeCheck.{rootPart, lackVerdict, partVerdict, wordsVerdict}
 use Rattle.tree_check.specs.TreeCheck.{checkVerdict, TreeChecked}
-use Rattle.tree_check.proofs.Only.{Only, fine, refused, only-wider, unless-only, then-only}
+use Rattle.refusals.proofs.Only.{Only, fine, refused, only-wider, unless-only, then-only}
 use Rattle.tree_check.proofs.NotLack.{Malformed, six, seven, spelt-malformed}
 use Rattle.tree_check.proofs.Built.{part-malformed}
 use Rattle.tree_check.proofs.Stages.{lack-decides, proper, reaches}

@@ -5,19 +5,21 @@ use native.Mathlib.Omega.{arith}
 use mathlib.Core.Path.{_≡_, refl, subst}
 use mathlib.Core.List.{List}
 use Rattle.refusals.specs.declared.Refusal.{Refusal}
-use Rattle.refusals.specs.declared.Refusal.the-variants.{RuleWordsWrong, RuleNotGood}
+use Rattle.refusals.specs.declared.Refusal.the-variants.{RuleHasTwin}
 use Rattle.refusals.specs.declared.Refusal.the-variants.{TreeWordsWrong, NodeWrong, LeafWrong}
 use Rattle.refusals.specs.declared.Verdict.{Verdict}
 use Rattle.refusals.specs.declared.Verdict.the-variants.{Fine, Refused}
 use Rattle.refusals.specs.Table.{numberOf}
 use Rattle.refusals.specs.Order.{_then_}
 use Rattle.rules.specs.Words.{ruleCount}
-use Rattle.rules.specs.Good.{ruleVerdict, listVerdict}
+use Rattle.rules.specs.Good.{listVerdict}
+use Rattle.rules.specs.Twins.{twinVerdict, twinsVerdict}
+use Rattle.rules.proofs.Lists.{rules-only}
 use Rattle.trees.specs.Words.{sizeVerdict}
 use Rattle.trees.specs.Spelt.{isCut, nodeVerdict, speltVerdict}
 use Rattle.tree_check.specs.TreeCheck.{wordsVerdict}
-use Rattle.tree_check.proofs.Only.{Only, fine, refused, only-wider}
-use Rattle.tree_check.proofs.Only.{unless-only, then-only, turns-only, cond-only}
+use Rattle.refusals.proofs.Only.{Only, fine, refused, only-wider}
+use Rattle.refusals.proofs.Only.{unless-only, then-only, turns-only, cond-only}
 
 -- a refusal is not 8, which says that a leaf lacks a rule
 abbrev pub NotLack : Refusal → Type 0
@@ -52,11 +54,10 @@ then-last (refused n) l e = not-last n l e
 
 -- the rule check never says that a leaf lacks a rule
 list-no-lack : (rs : List ℕ) → Only NotLack (listVerdict rs)
-unfolding listVerdict ruleVerdict
+unfolding listVerdict twinsVerdict twinVerdict
 list-no-lack rs =
-    then-only (unless-only _ RuleWordsWrong (λ e. omega arith))
-    (then-only (unless-only _ RuleWordsWrong (λ e. omega arith))
-    (turns-only _ _ _ (λ r. unless-only _ (RuleNotGood r) (λ e. omega arith))))
+    then-only (only-wider (λ why l e. omega arith) (rules-only rs))
+    (turns-only _ _ _ (λ r. unless-only _ (RuleHasTwin r _) (λ e. omega arith)))
 
 -- nor do the sizes
 sizes-no-lack : (nodes pool : List ℕ) → Only NotLack (sizeVerdict nodes pool)

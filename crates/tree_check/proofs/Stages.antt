@@ -14,7 +14,7 @@ use Rattle.refusals.proofs.Order.{holds-fine, fine-iff-holds, then-fine}
 use Rattle.fields.specs.Boxes.{rootBox}
 use Rattle.rules.specs.Words.{ruleCount}
 use Rattle.rules.specs.Good.{listVerdict}
-use Rattle.rules.proofs.Lists.{fine-iff-good}
+use Rattle.rules.proofs.Lists.{good-of-fine}
 use Rattle.trees.specs.Words.{nodeCount, sizeVerdict}
 use Rattle.trees.specs.Spelt.{Spelt}
 use Rattle.tree_check.specs.declared.preorder.Lack.{Lack}
@@ -22,7 +22,7 @@ use Rattle.tree_check.specs.declared.preorder.Part.{Part}
 use Rattle.tree_check.specs.declared.preorder.Part.the-variants.{Refused, Good}
 use Rattle.tree_check.specs.Whole.{mostCuts, Proper}
 use Rattle.tree_check.specs.TreeCheck.{rootPart, lackVerdict, partVerdict, checkVerdict}
-use Rattle.tree_check.proofs.Only.{unless-only}
+use Rattle.refusals.proofs.Only.{unless-only}
 use Rattle.tree_check.proofs.NotLack.{Malformed, not-lack-of-malformed, Last, not-last, then-last}
 use Rattle.tree_check.proofs.NotLack.{words-no-lack}
 use Rattle.tree_check.proofs.Checks.{words-fine-iff}
@@ -71,7 +71,7 @@ module _ {rs nodes pool : List ℕ} {c l : ℕ} {y : Lack} (t : Reached rs nodes
   -- the list is then good, and the root's part is built
   pub formed : Formed rs nodes pool c l y
   unfolding rootPart
-  formed = record { good = fine-iff-good rs .0 (t .list); spelt = t .spelt; root = built rs nodes pool (t .root) }
+  formed = record { good = good-of-fine rs (t .list); spelt = t .spelt; root = built rs nodes pool (t .root) }
 
   -- the list and the sizes are fine, and the tree is well formed
   pub proper : Proper rs nodes pool

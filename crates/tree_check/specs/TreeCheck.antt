@@ -2,7 +2,7 @@
 --   paper            an answer of the check, on paper: the most cuts above a leaf, and the longest leaf
 --   rootPart rs nodes pool    the root's part
 --   partVerdict m p  what the root's part says of a tree of m nodes: its refusal, 6 at the first node left over, then 8
---   wordsVerdict     1, 2, then 5, then *spelt*
+--   wordsVerdict     1, 2, 11, then 5, then *spelt*
 --   checkVerdict     those, then the preorder walk, then 8
 --   figures p        the most cuts above a leaf of the part p, and its longest leaf
 --   TreeChecked      the promise: what checkVerdict refuses; else the figures of the root's part

@@ -52,37 +52,60 @@ pub(crate) fn past_length_32() {
     );
 }
 
-// 512 rules: only the last holds protocol 6.
+// 512 rules: only the last holds protocol 6. Then the last is not good.
 pub(crate) fn rules_512() {
-    let mut list = [0u32; 5120];
+    let mut list = many();
     list[5119] = 255;
-    check_list(b"512 rules", &list);
-    search_list(b"512 rules", &list, &[0, 0, 0, 0, 6]);
-    check_list(b"512 rules but one word", &list[..5119]);
+    good_512(list);
     list[5118] = 256;
-    check_list(b"512 rules, the last not good", &list);
-    scan_list(b"512 rules, the last not good", &list, &[0; 5]);
+    bad_512(list);
+}
+
+fn good_512(list: [u32; 5130]) {
+    check_list(b"512 rules", &list[0..5120]);
+    search_list(b"512 rules", &list[0..5120], &[0, 0, 0, 0, 6]);
+    check_list(b"512 rules but one word", &list[0..5119]);
+}
+
+fn bad_512(list: [u32; 5130]) {
+    check_list(b"512 rules, the last not good", &list[0..5120]);
+    scan_list(b"512 rules, the last not good", &list[0..5120], &[0; 5]);
     read_list(
         b"a file of 512 rules, cut after its first line",
         b"rules\t512\n",
-        &mut list,
+        &mut [0; 5120],
     );
 }
 
 // One rule more.
 pub(crate) fn rules_513() {
-    let mut list = [0u32; 5130];
+    let mut list = many();
     list[5129] = 255;
+    lists_513(list);
+}
+
+fn lists_513(list: [u32; 5130]) {
     check_list(b"513 rules", &list);
     search_list(b"513 rules", &list, &[0, 0, 0, 0, 6]);
     scan_list(b"513 rules", &list, &[0, 0, 0, 0, 6]);
-    scan_list(b"513 rules but one word", &list[..5129], &[0, 0, 0, 0, 6]);
+    scan_list(b"513 rules but one word", &list[0..5129], &[0, 0, 0, 0, 6]);
     check_tree(b"513 rules", &list, &[5, 0, 0], &[]);
     read_list(
         b"a file of 513 rules, cut after its first line",
         b"rules\t513\n",
-        &mut list,
+        &mut [0; 5130],
     );
+}
+
+// 513 rules: each has the source ports from 0 to its own number, and is 0 otherwise.
+fn many() -> [u32; 5130] {
+    let mut list = [0u32; 5130];
+    let mut i = 0;
+    while i < 513 {
+        list[10 * i + 5] = i as u32;
+        i += 1;
+    }
+    list
 }
 
 // 63 cuts above the last leaf.

@@ -3,6 +3,7 @@
 // a colon, the lent words after it. The stored output comes from the independent program, which states the examples
 // once more.
 //   worked    the worked policy: its headers, its tree, its files
+//   twins     rules with the words of an earlier one, in lists and in files
 //   limits    lengths 32 and 0, 512 and 513 rules, 63 and 64 cuts
 //   policy    the words of the worked policy
 //   calls     the searches and the checks, and the line that says the answer
@@ -13,6 +14,7 @@ mod files;
 mod limits;
 mod policy;
 mod say;
+mod twins;
 mod worked;
 
 fn main() {
@@ -22,6 +24,9 @@ fn main() {
     worked::checks();
     worked::rule_files();
     worked::tree_files();
+    twins::lists();
+    twins::unjudged_lists();
+    twins::rule_files();
     limits::length_32();
     limits::length_0();
     limits::past_length_32();

@@ -101,7 +101,7 @@ pub fn time(files: [&str; 2], draw: &mut impl FnMut() -> u32) {
     time_list("drawn prefixes and ranges", &list(&mut |_| drawn_rule(draw)), &libraries);
     let hosts = list(&mut |_| [draw(), 32, draw(), 32, 0, 65_535, 0, 65_535, 0, 255]);
     time_list("single hosts", &hosts, &libraries);
-    let zeros = list(&mut |number| [0, 0, 0, 0, 0, 65_535, 0, 65_535, number % 256, 255]);
+    let zeros = list(&mut |number| [0, 0, 0, 0, 0, 65_535, 0, 65_535, number % 128, 255 - number / 128]);
     time_list("address zero, length 0", &zeros, &libraries);
 }
 

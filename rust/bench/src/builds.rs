@@ -41,40 +41,47 @@ fn port(draw: &mut dyn FnMut() -> u32) -> u32 {
     [22, 25, 53, 80, 110, 123, 143, 389, 443, 636, 993, 3_306, 5_432, 8_080, 8_443][draw() as usize % 15]
 }
 
-/// Hosts of 10.0.0.0/16, each with one port; the last rule takes the rest.
-fn services(size: u32, draw: &mut dyn FnMut() -> u32) -> Vec<Rule> {
-    let mut rules: Vec<Rule> = (1..size)
-        .map(|_| {
-            let (host, port, protocol) = (0x0A00_0000 + draw() % 65_536, port(draw), [6, 17][draw() as usize % 2]);
-            [0, 0, host, 32, 0, 65_535, port, port, protocol, protocol]
-        })
-        .collect();
-    rules.push(EVERYTHING);
+/// So many rules: the last takes the rest, and one that is there already is drawn again.
+fn drawn(size: u32, draw: &mut dyn FnMut() -> u32, rule: fn(&mut dyn FnMut() -> u32) -> Rule) -> Vec<Rule> {
+    let mut rules = vec![EVERYTHING];
+    while rules.len() < size as usize {
+        let next = rule(draw);
+        if !rules.contains(&next) {
+            rules.push(next);
+        }
+    }
+    rules.rotate_left(1);
     rules
 }
 
-/// Networks that talk to networks; the last rule takes the rest.
+/// Hosts of 10.0.0.0/16, each with one port.
+fn services(size: u32, draw: &mut dyn FnMut() -> u32) -> Vec<Rule> {
+    drawn(size, draw, |draw| {
+        let (host, port, protocol) = (0x0A00_0000 + draw() % 65_536, port(draw), [6, 17][draw() as usize % 2]);
+        [0, 0, host, 32, 0, 65_535, port, port, protocol, protocol]
+    })
+}
+
+/// Networks that talk to networks.
 fn zones(size: u32, draw: &mut dyn FnMut() -> u32) -> Vec<Rule> {
+    drawn(size, draw, zone)
+}
+
+fn zone(draw: &mut dyn FnMut() -> u32) -> Rule {
     let network = |draw: &mut dyn FnMut() -> u32| {
         let length = 16 + draw() % 17;
         [draw() & !((u64::from(u32::MAX) >> length) as u32), length]
     };
-    let mut rules: Vec<Rule> = (1..size)
-        .map(|_| {
-            let ([source, source_length], [to, to_length]) = (network(draw), network(draw));
-            let (port, protocol) = (port(draw), [6, 17][draw() as usize % 2]);
-            [source, source_length, to, to_length, 0, 65_535, port, port, protocol, protocol]
-        })
-        .collect();
-    rules.push(EVERYTHING);
-    rules
+    let ([source, source_length], [to, to_length]) = (network(draw), network(draw));
+    let (port, protocol) = (port(draw), [6, 17][draw() as usize % 2]);
+    [source, source_length, to, to_length, 0, 65_535, port, port, protocol, protocol]
 }
 
 /// As zones, but a source is left open in one of four rules, a destination in one of eight, and the ports in one of
 /// eight.
 fn firewall(size: u32, draw: &mut dyn FnMut() -> u32) -> Vec<Rule> {
-    let mut rules = zones(size, draw);
-    for rule in &mut rules {
+    drawn(size, draw, |draw| {
+        let mut rule = zone(draw);
         if draw().is_multiple_of(4) {
             rule[..2].copy_from_slice(&EVERYTHING[..2]);
         }
@@ -84,8 +91,8 @@ fn firewall(size: u32, draw: &mut dyn FnMut() -> u32) -> Vec<Rule> {
         if draw().is_multiple_of(8) {
             rule[6..8].copy_from_slice(&[1_024, 65_535]);
         }
-    }
-    rules
+        rule
+    })
 }
 
 /// Compares the words of both compilers, and then times them on the first list of each kind that fits.

@@ -57,13 +57,15 @@ fn kinds(draw: &mut impl FnMut() -> u32) -> Vec<Kind> {
         Kind { name: "drawn prefixes and ranges", rules: drawn, headers: inside },
         Kind {
             name: "other protocols, so no rule matches and all five fields are compared",
-            rules: rules(&mut |rule| [0, 0, 0, 0, 0, 65_535, 0, 65_535, 1 + rule % 255, 255]),
+            rules: rules(&mut |rule| [0, 0, 0, 0, 0, 65_535, 0, 65_535, 1 + rule % 128, 255 - rule / 128]),
             headers: headers(&mut || [draw(), draw(), draw() & 65_535, draw() & 65_535, 0]),
         },
         Kind {
             name: "every rule matches",
-            rules: rules(&mut |_| [0, 0, 0, 0, 0, 65_535, 0, 65_535, 0, 255]),
-            headers: headers(&mut || anywhere(draw)),
+            rules: rules(&mut |rule| [0, 0, 0, 0, rule, 65_535, 0, 65_535, 0, 255]),
+            headers: headers(&mut || {
+                [draw(), draw(), MOST_RULES as u32 + draw() % 65_000, draw() & 65_535, draw() & 255]
+            }),
         },
     ]
 }

@@ -1,4 +1,5 @@
-//! Good lists of rules: the worked policy, and lists drawn so that few, many or neighbouring rules match.
+//! Good lists of rules: the worked policy, and lists drawn so that few, many or neighbouring rules match. None has
+//! twins.
 
 use crate::draws::Draws;
 use crate::headers::{self, Header, LARGEST};
@@ -40,6 +41,21 @@ impl List {
     }
 }
 
+/// So many rules, up to 1,024, that differ in the ends of the source port: rule 0 is everything, and all of them match
+/// every header with a source port from 31 to 65,504.
+pub fn wide_rules(count: usize) -> Vec<Rule> {
+    let rule = |number: u32| [0, 0, 0, 0, number % 32, 65_535 - number / 32, 0, 65_535, 0, 255];
+    (0..count as u32).map(rule).collect()
+}
+
+/// Makes the rule of this place everything. Where another rule is that already, the two change places.
+pub fn put_everything(rules: &mut [Rule], place: usize) {
+    match rules.iter().position(|rule| *rule == EVERYTHING) {
+        Some(other) => rules.swap(place, other),
+        None => rules[place] = EVERYTHING,
+    }
+}
+
 /// Draws a good list of this many rules.
 pub fn good_list(draws: &mut Draws, count: usize, manner: Manner) -> List {
     let several = match manner {
@@ -47,23 +63,35 @@ pub fn good_list(draws: &mut Draws, count: usize, manner: Manner) -> List {
         _ => 1 + draws.below(4),
     };
     let points: Vec<Header> = (0..several).map(|_| headers::anywhere(draws)).collect();
-    let rules = (0..count)
-        .map(|_| {
-            let point = draws.pick(&points);
-            match manner {
-                Manner::Nested => around(draws, &point),
-                Manner::Beside => beside(draws, &point),
-                Manner::Scattered => scattered(draws),
-                Manner::Mixed => match draws.below(8) {
-                    0 => EVERYTHING,
-                    1 => scattered(draws),
-                    2 | 3 => beside(draws, &point),
-                    _ => around(draws, &point),
-                },
-            }
-        })
-        .collect();
+    let rules = different(count, || drawn_rule(draws, &points, manner));
     List { rules, points }
+}
+
+/// So many rules; one that is there already is drawn again.
+pub fn different(count: usize, mut draw: impl FnMut() -> Rule) -> Vec<Rule> {
+    let mut rules = Vec::new();
+    while rules.len() < count {
+        let rule = draw();
+        if !rules.contains(&rule) {
+            rules.push(rule);
+        }
+    }
+    rules
+}
+
+fn drawn_rule(draws: &mut Draws, points: &[Header], manner: Manner) -> Rule {
+    let point = draws.pick(points);
+    match manner {
+        Manner::Nested => around(draws, &point),
+        Manner::Beside => beside(draws, &point),
+        Manner::Scattered => scattered(draws),
+        Manner::Mixed => match draws.below(8) {
+            0 => EVERYTHING,
+            1 => scattered(draws),
+            2 | 3 => beside(draws, &point),
+            _ => around(draws, &point),
+        },
+    }
 }
 
 /// The prefix of this length that the address has: its bits past the length are zero.

@@ -1,5 +1,5 @@
 //! Good lists for the compiler: their rules share few ends, so that fields tie, values repeat, and many rules meet a
-//! box.
+//! box. None has twins.
 
 use crate::draws::Draws;
 use crate::headers::LARGEST;
@@ -16,6 +16,39 @@ pub fn put(mut rule: Rule, field: usize, pair: [u32; 2]) -> Rule {
     rule
 }
 
+/// The rule, in some of the fields but this one from 0 to 1, as the number's bits say. So sixteen of them differ, and
+/// they give every other field one cut value.
+pub fn variant(rule: Rule, field: usize, number: usize) -> Rule {
+    let others = (0..5).filter(|&other| other != field).enumerate();
+    others.filter(|(bit, _)| number >> bit & 1 == 1).fold(rule, |rule, (_, other)| {
+        let from_0_to_1 = if other < 2 { [0, 31] } else { [0, 1] };
+        put(rule, other, from_0_to_1)
+    })
+}
+
+/// So many rules that hold one header, up to 512. Each but the first is an earlier one that reaches one step further on
+/// one side, or has an address that is one bit shorter.
+pub fn around_a_header(count: usize) -> Vec<Rule> {
+    let mut rules = vec![[0xAAAA_AAAA, 32, 0x5555_5555, 32, 1_000, 1_000, 1_000, 1_000, 100, 100]];
+    let mut inner = 0;
+    while rules.len() < count {
+        for word in [1, 3, 4, 5, 6, 7, 8, 9] {
+            let mut wider = rules[inner];
+            match word {
+                1 | 3 => [wider[word - 1], wider[word]] = lists::prefix(wider[word - 1], wider[word] - 1),
+                4 | 6 | 8 => wider[word] -= 1,
+                _ => wider[word] += 1,
+            }
+            if !rules.contains(&wider) {
+                rules.push(wider);
+            }
+        }
+        inner += 1;
+    }
+    rules.truncate(count);
+    rules
+}
+
 /// How the rules of a list give a field.
 struct Field {
     /// The values that ends and addresses are taken from.
@@ -24,25 +57,30 @@ struct Field {
     whole: usize,
 }
 
-/// Draws a list of this many rules. Once in six a rule repeats an earlier one, now and then with another field.
+/// Draws a list of this many rules. Once in six a rule is an earlier one with another field. Where the values give a
+/// rule that is there already, a field gets one more.
 pub fn list(draws: &mut Draws, size: usize) -> Vec<Rule> {
-    let fields: [Field; 5] = std::array::from_fn(|field| {
+    let mut fields: [Field; 5] = std::array::from_fn(|field| {
         let values = values_of(draws, field);
         Field { values, whole: draws.pick(&[0, 2, 3, 4, 4]) }
     });
     let mut rules: Vec<Rule> = Vec::new();
     for _ in 0..size {
-        let rule = if !rules.is_empty() && draws.once_in(6) {
+        let mut rule = if !rules.is_empty() && draws.once_in(6) {
             let field = draws.below(5);
             let earlier = draws.pick(&rules);
-            let changed = put(earlier, field, pair_of(draws, field, &fields[field].values));
-            draws.pick(&[earlier, changed])
+            put(earlier, field, pair_of(draws, field, &fields[field].values))
         } else {
             fields.iter().enumerate().fold(EVERYTHING, |rule, (number, field)| match draws.below(4) {
                 chosen if chosen < field.whole => rule,
                 _ => put(rule, number, pair_of(draws, number, &field.values)),
             })
         };
+        while rules.contains(&rule) {
+            let field = draws.below(5);
+            fields[field].values.push(draws.between(0, LARGEST[field]));
+            rule = put(rule, field, pair_of(draws, field, &fields[field].values));
+        }
         rules.push(rule);
     }
     rules

@@ -6,11 +6,11 @@ use oracle::build::{compile, LARGEST_ROOM};
 use oracle::builder::{self, Limits};
 use oracle::nodes::{MOST_ENTRIES, MOST_NODES};
 use oracle::parts::{Part, Places};
-use oracle::rules::judge_rules;
+use oracle::rules::{self, judge_rules, rule_of};
 
 use crate::draws::Draws;
 use crate::headers::{self, Header, LARGEST};
-use crate::lists::{List, Rule, EVERYTHING, WORKED_POLICY};
+use crate::lists::{wide_rules, List, Rule, EVERYTHING, WORKED_POLICY};
 
 /// The words of a list and of a tree, as the calls take them.
 #[derive(Clone)]
@@ -85,15 +85,24 @@ pub fn compiled(rules: &[Rule]) -> Option<Policy> {
 /// Grows a tree of at most this many cuts; of fewer where the pool would be over its limit.
 pub fn grown(list: &List, cuts: u64, draws: &mut Draws) -> Planted {
     let rules = judge_rules(&list.words()).expect("the list is good");
-    let most_leaves = MOST_ENTRIES as u64 / (rules.len() as u64).max(1);
-    let cuts = cuts.min(most_leaves - 1).min(MOST_NODES as u64 / 2);
-    let root = builder::grow(&rules, cuts, &mut |bound| draws.below(bound as usize) as u64);
-    Planted::of(&list.rules, root)
+    Planted::of(&list.rules, grown_for(&rules, cuts, draws))
 }
 
-/// A tree of so many nodes that is spelt, and hardly ever well formed, for so many rules that match everything.
+/// Grows a tree as for rules that meet every box: each leaf lists every rule. So it is right for any list.
+pub fn grown_full(list: &[Rule], cuts: u64, draws: &mut Draws) -> Planted {
+    let everywhere = vec![rule_of(&EVERYTHING); list.len()];
+    Planted::of(list, grown_for(&everywhere, cuts, draws))
+}
+
+fn grown_for(rules: &[rules::Rule], cuts: u64, draws: &mut Draws) -> Part {
+    let most_leaves = MOST_ENTRIES as u64 / (rules.len() as u64).max(1);
+    let cuts = cuts.min(most_leaves - 1).min(MOST_NODES as u64 / 2);
+    builder::grow(rules, cuts, &mut |bound| draws.below(bound as usize) as u64)
+}
+
+/// A tree of so many nodes that is spelt, and hardly ever well formed, for so many rules that nearly all headers match.
 pub fn spelt(rule_count: usize, node_count: usize, draws: &mut Draws) -> Policy {
-    let mut policy = Policy { rules: EVERYTHING.repeat(rule_count), nodes: Vec::new(), pool: Vec::new() };
+    let mut policy = Policy { rules: wide_rules(rule_count).concat(), nodes: Vec::new(), pool: Vec::new() };
     for _ in 0..node_count {
         if draws.once_in(2) {
             let value = draws.word() >> draws.below(32);
@@ -114,7 +123,7 @@ pub fn longest() -> Policy {
     for leaf in 0..8 {
         nodes.extend([5, 512 * leaf, 512]);
     }
-    Policy { rules: EVERYTHING.repeat(512), nodes, pool: vec![511; 4_096] }
+    Policy { rules: wide_rules(512).concat(), nodes, pool: vec![511; 4_096] }
 }
 
 /// A part of the tree, by the number of its node.

@@ -50,6 +50,8 @@ pub enum Refusal {
     LineWrong { line: usize },
     /// The text stops before its end line, after so many whole lines.
     TextStops { lines: usize },
+    /// A rule has the ten words of an earlier one. This is the lowest such rule, so there is just one such earlier one.
+    RuleHasTwin { rule: usize, earlier: usize },
     /// The program's alone: a file is not opened, is not read to its end, or is over 65,536 bytes.
     FileNotRead,
 }
@@ -70,6 +72,7 @@ impl Refusal {
             Refusal::LeafLacksRule { node, rule } => (8, node, rule),
             Refusal::LineWrong { line } => (9, line as u64, 0),
             Refusal::TextStops { lines } => (10, lines as u64, 0),
+            Refusal::RuleHasTwin { rule, earlier } => (11, rule as u64, earlier as u64),
             Refusal::FileNotRead => (12, 0, 0),
         }
     }

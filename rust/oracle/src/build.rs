@@ -26,9 +26,9 @@ pub struct Room {
 /// The room of the scope's limits.
 pub const LARGEST_ROOM: Room = Room { nodes: MOST_NODES * NODE_WORDS, pool: MOST_ENTRIES };
 
-/// Builds the list's tree, and writes its words to the start of `nodes` and of `pool`: 1, 2, then 4 for the first node
-/// in preorder that does not fit. A completed build gives `a`, the number of nodes, and `b`, of pool words; the rest of
-/// `nodes` and of `pool` is as found. So is all of both on a refusal.
+/// Builds the list's tree, and writes its words to the start of `nodes` and of `pool`: 1, 2, 11, then 4 for the first
+/// node in preorder that does not fit. A completed build gives `a`, the number of nodes, and `b`, of pool words; the
+/// rest of `nodes` and of `pool` is as found. So is all of both on a refusal.
 pub fn build(rules: &[u32], nodes: &mut [u32], pool: &mut [u32]) -> Answer {
     let room = Room { nodes: nodes.len().min(LARGEST_ROOM.nodes), pool: pool.len().min(LARGEST_ROOM.pool) };
     match compile(rules, room) {
@@ -49,8 +49,8 @@ struct Open {
     right_child_at: Option<usize>,
 }
 
-/// The words of the list's tree; otherwise 1, 2 or 4. It stops at the first node that does not fit, however large the
-/// tree would be.
+/// The words of the list's tree; otherwise 1, 2, 11 or 4. It stops at the first node that does not fit, however large
+/// the tree would be.
 pub fn compile(rules: &[u32], room: Room) -> Result<TreeWords, Refusal> {
     let boxes: Vec<Sides> = judge_rules(rules)?.iter().map(box_of).collect();
     let mut words = TreeWords::default();

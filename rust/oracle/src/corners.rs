@@ -24,7 +24,7 @@ pub enum Verdict {
 /// The values of each field that are ends of rules and cuts, or just beside them, rising.
 pub type Corners = [Vec<u32>; 5];
 
-/// The verdict on a tree for a good list. The words have passed 1, 2 and 5.
+/// The verdict on a tree for a good list. The words have passed 1, 2, 11 and 5.
 pub fn judge_by_corners(rules: &[u32], nodes: &[u32], pool: &[u32]) -> Verdict {
     if !is_well_formed(rules, nodes, pool) {
         return Verdict::NotWellFormed;

@@ -4,7 +4,7 @@
 //! bit by bit, every list is scanned from its first rule to its last, and speed is no aim. Each public call takes
 //! slices of any length and any words, and gives one [`Answer`]:
 //!
-//! - [`rule_check`]: is every rule of the list good;
+//! - [`rule_check`]: is every rule of the list good, and none the same as an earlier one;
 //! - [`line_all`]: the numbers of all rules that match a header;
 //! - [`line_first`]: the lowest number of them;
 //! - [`scan_all`] and [`scan_first`]: the same, and no list is judged;

@@ -49,7 +49,7 @@ pub fn program(rules: Found, tree: Found, input: &[u8]) -> Vec<u8> {
     written.into_bytes()
 }
 
-/// The words of the list that `rules.txt` holds; otherwise 12, 9 or 10.
+/// The words of the list that `rules.txt` holds; otherwise 12, 9, 10 or 11.
 fn load_rules(found: Found) -> Result<Vec<u32>, Answer> {
     let text = text_of_file(found)?;
     let mut words = vec![0; MOST_RULES * RULE_WORDS];

@@ -1,15 +1,15 @@
 //! The rules file: a line `rules`, a line for each rule, and the end line.
 
 use crate::answer::{Answer, Refusal};
-use crate::rules::{is_good, judge_rules, rule_of, MOST_RULES, RULE_WORDS};
+use crate::rules::{is_good, judge_rules, judge_twins, rule_of, MOST_RULES, RULE_WORDS};
 use crate::text::{address, number, numbers, parts, put_text, text_of, Lines};
 
-/// Writes the list as a text: 1, 2, then 4. `put_text` says what a completed writer gives.
+/// Writes the list as a text: 1, 2, 11, then 4. `put_text` says what a completed writer gives.
 pub fn rules_write(rules: &[u32], text: &mut [u8]) -> Answer {
     put_text(rules_text(rules), text)
 }
 
-/// The text of a good list; otherwise refusal 1 or 2.
+/// The text of a good list; otherwise refusal 1, 2 or 11.
 pub fn rules_text(words: &[u32]) -> Result<String, Refusal> {
     let list = judge_rules(words)?;
     let mut lines = vec![format!("rules\t{}", list.len())];
@@ -29,8 +29,8 @@ fn prefix_text(pair: &[u32]) -> String {
     format!("{a}.{b}.{c}.{d}/{}", pair[1])
 }
 
-/// Reads a list from a text, and writes its words to the start of `rules`: 9 or 10, then 4. A completed reader gives
-/// `a`, the number of rules; the rest of `rules` is as found. So is all of it on a refusal.
+/// Reads a list from a text, and writes its words to the start of `rules`: 9 or 10, then 11, then 4. A completed reader
+/// gives `a`, the number of rules; the rest of `rules` is as found. So is all of it on a refusal.
 pub fn rules_read(text: &[u8], rules: &mut [u32]) -> Answer {
     match read_words(text) {
         Err(refusal) => Answer::refused(refusal),
@@ -42,7 +42,7 @@ pub fn rules_read(text: &[u8], rules: &mut [u32]) -> Answer {
     }
 }
 
-/// The words of the list that the text is; otherwise 9 or 10.
+/// The words of the list that the text is; otherwise 9 or 10, and 11 where the text is right to its end.
 fn read_words(text: &[u8]) -> Result<Vec<u32>, Refusal> {
     let mut lines = Lines::of(text);
     let count = lines.next(|fields| match fields {
@@ -54,6 +54,7 @@ fn read_words(text: &[u8]) -> Result<Vec<u32>, Refusal> {
         words.extend(lines.next(|fields| read_rule(fields, rule))?);
     }
     lines.end(true)?;
+    judge_twins(&words)?;
     Ok(words)
 }
 

@@ -38,7 +38,7 @@ pub struct Rule {
     pub protocol: Range,
 }
 
-/// Answers whether the list is of a right length and every rule of it good: 1, then 2.
+/// Answers whether the list is of a right length, every rule of it good, and no two of them the same: 1, 2, then 11.
 /// A completed check gives `a`, the number of rules.
 pub fn rule_check(rules: &[u32]) -> Answer {
     match judge_rules(rules) {
@@ -47,7 +47,7 @@ pub fn rule_check(rules: &[u32]) -> Answer {
     }
 }
 
-/// The rules of a list that is right, in order; otherwise refusal 1 or, at the lowest bad rule, 2.
+/// The rules of a list that is right, in order; otherwise refusal 1; 2, at the lowest bad rule; or 11.
 pub fn judge_rules(words: &[u32]) -> Result<Vec<Rule>, Refusal> {
     if !words.len().is_multiple_of(RULE_WORDS) || words.len() > MOST_RULES * RULE_WORDS {
         return Err(Refusal::RuleWords);
@@ -60,7 +60,22 @@ pub fn judge_rules(words: &[u32]) -> Result<Vec<Rule>, Refusal> {
         }
         list.push(rule);
     }
+    judge_twins(words)?;
     Ok(list)
+}
+
+/// Is each rule another one than all before it? Otherwise 11, at the lowest rule that is not. Two rules are the same
+/// where all ten words are; every rule is compared with every earlier one.
+pub fn judge_twins(words: &[u32]) -> Result<(), Refusal> {
+    let rules: Vec<&[u32]> = words.chunks_exact(RULE_WORDS).collect();
+    for rule in 0..rules.len() {
+        for earlier in 0..rule {
+            if rules[earlier] == rules[rule] {
+                return Err(Refusal::RuleHasTwin { rule, earlier });
+            }
+        }
+    }
+    Ok(())
 }
 
 /// The rule that these ten words are.

@@ -10,8 +10,8 @@ use crate::spelt::judge_spelt;
 /// The most cuts above any leaf.
 pub const MOST_CUTS: u64 = 63;
 
-/// Judges the tree for this list: 1, 2, 5, *spelt*, the preorder walk, then 8. A completed check gives `a`, the most
-/// cuts above a leaf, and `b`, the entries of the longest leaf.
+/// Judges the tree for this list: 1, 2, 11, 5, *spelt*, the preorder walk, then 8. A completed check gives `a`, the
+/// most cuts above a leaf, and `b`, the entries of the longest leaf.
 pub fn tree_check(rules: &[u32], nodes: &[u32], pool: &[u32]) -> Answer {
     match judge_tree(rules, nodes, pool) {
         Err(refusal) => Answer::refused(refusal),

@@ -12,6 +12,11 @@ fn with(word: usize, value: u32) -> [u32; 10] {
     rule
 }
 
+/// So many rules. They differ in the ends of the source port, and all match `HEADER`.
+fn many(rules: u32) -> Vec<u32> {
+    (0..rules).flat_map(|number| [0, 0, 0, 0, number, 65_535 - number, 0, 65_535, 0, 255]).collect()
+}
+
 fn refused(number: u64, place: u64) -> Answer {
     Answer { number, place, extra: 0, a: 0, b: 0, c: 0 }
 }
@@ -88,7 +93,7 @@ fn ranges_over_their_limit_or_turned_round_are_2() {
 
 #[test]
 fn a_list_holds_512_rules_and_not_513() {
-    let list = EVERYTHING.repeat(512);
+    let list = many(512);
     let mut out = [7_777; 513];
     assert_eq!(rule_check(&list), Answer::completed(512, 0, 0));
     assert_eq!(line_all(&list, &HEADER, &mut out), Answer::completed(512, 0, 0));
@@ -96,7 +101,7 @@ fn a_list_holds_512_rules_and_not_513() {
     assert_eq!(out[512], 7_777);
     assert_eq!(line_first(&list, &HEADER), Answer::completed(1, 0, 0));
 
-    let longer = EVERYTHING.repeat(513);
+    let longer = many(513);
     let mut out = [7_777; 513];
     assert_eq!(rule_check(&longer), refused(1, 0));
     assert_eq!(line_all(&longer, &HEADER, &mut out), refused(1, 0));
@@ -116,7 +121,7 @@ fn no_rules_and_no_room_is_a_completed_search() {
 
 #[test]
 fn the_lowest_bad_rule_is_named_even_after_the_first_match() {
-    let mut list = EVERYTHING.repeat(5);
+    let mut list = many(5);
     list[4 * 10 + 1] = 33;
     assert_eq!(rule_check(&list), refused(2, 4));
     assert_eq!(line_first(&list, &HEADER), refused(2, 4));

@@ -32,10 +32,10 @@ fn with(old: &str, new: &str) -> String {
     changed(TEXT, old, new)
 }
 
-/// A text of so many rules that match everything.
+/// A text of so many rules that match everything from a source port on, each from another.
 fn text_of(count: usize) -> String {
-    let rule = "\t0.0.0.0/0\t0.0.0.0/0\t0\t65535\t0\t65535\t0\t255\n";
-    let rules: String = (0..count).map(|number| format!("rule\t{number}{rule}")).collect();
+    let rule = |number| format!("rule\t{number}\t0.0.0.0/0\t0.0.0.0/0\t{number}\t65535\t0\t65535\t0\t255\n");
+    let rules: String = (0..count).map(rule).collect();
     format!("rules\t{count}\n{rules}end\t{}\n", count + 1)
 }
 

@@ -4,6 +4,9 @@ use oracle::{tree_all, tree_check, tree_first, Answer};
 
 const EVERYTHING: [u32; 10] = [0, 0, 0, 0, 0, 65_535, 0, 65_535, 0, 255];
 
+/// Two rules that meet every box of the trees below, which are cut by the protocol alone.
+const TWO_RULES: [[u32; 10]; 2] = [EVERYTHING, [0, 0, 0, 0, 0, 65_535, 80, 80, 0, 255]];
+
 fn refused(number: u64, place: u64, extra: u64) -> Answer {
     Answer { number, place, extra, a: 0, b: 0, c: 0 }
 }
@@ -58,11 +61,12 @@ fn node_words_and_pool_have_limits() {
     assert_eq!(tree_check(&[], &[5, 0, 0], &[0; 4_096]), refused(7, 1, 0));
     assert_eq!(tree_check(&[0], &[], &[]), refused(1, 0, 0));
     assert_eq!(tree_check(&[u32::MAX; 10], &[], &[]), refused(2, 0, 0));
+    assert_eq!(tree_check(&EVERYTHING.repeat(2), &[], &[]), refused(11, 1, 0));
 }
 
 #[test]
 fn spelt_is_judged_by_rising_node() {
-    let check = |nodes: &[[u32; 3]], pool: &[u32]| tree_check(&EVERYTHING.repeat(2), &nodes.concat(), pool);
+    let check = |nodes: &[[u32; 3]], pool: &[u32]| tree_check(&TWO_RULES.concat(), &nodes.concat(), pool);
     assert_eq!(check(&[[5, 0, 2]], &[0, 1]), Answer::completed(0, 2, 0));
     assert_eq!(check(&[[5, 0, 1]], &[0]), refused(8, 0, 1));
     assert_eq!(check(&[[5, 0, 1]], &[1]), refused(8, 0, 0));
@@ -81,7 +85,7 @@ fn spelt_is_judged_by_rising_node() {
 
 #[test]
 fn the_walk_tells_its_first_fault() {
-    let check = |nodes: &[[u32; 3]], pool: &[u32]| tree_check(&EVERYTHING.repeat(2), &nodes.concat(), pool);
+    let check = |nodes: &[[u32; 3]], pool: &[u32]| tree_check(&TWO_RULES.concat(), &nodes.concat(), pool);
     // The left leaf does not rise, and the right child is wrong.
     assert_eq!(check(&[[4, 9, 1], [5, 0, 2], [5, 2, 2]], &[1, 0, 0, 1]), refused(7, 1, 0));
     // The right child is wrong, and the right leaf does not rise.

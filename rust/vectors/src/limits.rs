@@ -34,9 +34,9 @@ pub fn lengths() {
     say::rule_check("length 32, the last bit set", &from_prefix(1, 32));
 }
 
-/// So many rules, of which only the last holds a protocol but 0.
+/// So many rules: each has the source ports from 0 to its own number, and only the last holds a protocol but 0.
 fn many(rules: usize) -> Vec<u32> {
-    let mut list = vec![0; 10 * rules];
+    let mut list: Vec<u32> = (0..rules as u32).flat_map(|rule| [0, 0, 0, 0, 0, rule, 0, 0, 0, 0]).collect();
     list[10 * rules - 1] = 255;
     list
 }

@@ -5,6 +5,7 @@
 
 mod limits;
 mod say;
+mod twins;
 mod worked;
 
 fn main() {
@@ -12,6 +13,8 @@ fn main() {
     worked::checks();
     worked::rule_file();
     worked::tree_file();
+    twins::lists();
+    twins::rule_file();
     limits::lengths();
     limits::rules();
     limits::cuts();

@@ -47,7 +47,7 @@ pub struct TreeCounts {
     pub pool: usize,
 }
 
-/// Is the list good? Gives the number of rules: 1, 2.
+/// Is the list good? Gives the number of rules: 1, 2, 11.
 pub fn rule_check(rules: &[u32]) -> Result<usize, Refusal> {
     // SAFETY: here and below, a slice's pointer and length are given together, and a slice that is written to is
     // borrowed alone.
@@ -56,7 +56,7 @@ pub fn rule_check(rules: &[u32]) -> Result<usize, Refusal> {
 }
 
 /// Judges the list; then writes the numbers of all rules that match the header to the front of `out`, rising, and gives
-/// them: 1, 2, 3, 4.
+/// them: 1, 2, 11, 3, 4.
 pub fn line_all<'a>(rules: &[u32], header: &[u32], out: &'a mut [u32]) -> Result<&'a [u32], Refusal> {
     let [count, ..] = answered(|answer| unsafe {
         let (r, h, o) = (rules.len() as u64, header.len() as u64, out.len() as u64);
@@ -65,7 +65,7 @@ pub fn line_all<'a>(rules: &[u32], header: &[u32], out: &'a mut [u32]) -> Result
     Ok(&out[..count as usize])
 }
 
-/// Judges the list; then finds the lowest rule that matches the header: 1, 2, 3.
+/// Judges the list; then finds the lowest rule that matches the header: 1, 2, 11, 3.
 pub fn line_first(rules: &[u32], header: &[u32]) -> Result<Option<u32>, Refusal> {
     let [next, ..] = answered(|answer| unsafe {
         raw::wick_line_first(rules.as_ptr(), rules.len() as u64, header.as_ptr(), header.len() as u64, answer)
@@ -124,7 +124,7 @@ pub fn tree_first(rules: &[u32], tree: Tree, header: &[u32]) -> Result<Counted<O
     Ok(Counted { found: rule_before(next), visited, compared })
 }
 
-/// May this tree serve for this list? 1, 2, 5, 6, 7, 8. Where it is not refused, the tree is accepted.
+/// May this tree serve for this list? 1, 2, 11, 5, 6, 7, 8. Where it is not refused, the tree is accepted.
 pub fn tree_check(rules: &[u32], tree: Tree) -> Result<Figures, Refusal> {
     let Tree { nodes, pool } = tree;
     let [cuts, longest_leaf, _] = answered(|answer| unsafe {
@@ -134,8 +134,8 @@ pub fn tree_check(rules: &[u32], tree: Tree) -> Result<Figures, Refusal> {
     Ok(Figures { cuts, longest_leaf })
 }
 
-/// Compiles the list: writes its tree to the front of `nodes` and of `pool`, and gives it: 1, 2, 4. One list gives one
-/// tree, and [`tree_check`] accepts it.
+/// Compiles the list: writes its tree to the front of `nodes` and of `pool`, and gives it: 1, 2, 11, 4. One list gives
+/// one tree, and [`tree_check`] accepts it.
 ///
 /// 4 says that too little is lent, or that the tree is over [`MOST_NODE_WORDS`] or [`MOST_POOL_WORDS`], which no room
 /// mends. It tells the words up to and with the first node that does not fit; with just as many, a later one may not.
@@ -163,7 +163,7 @@ pub fn build<'a>(rules: &[u32], nodes: &'a mut [u32], pool: &'a mut [u32]) -> Re
     Ok(Tree { nodes: &nodes[..node_count as usize * NODE_WORDS], pool: &pool[..pool_words as usize] })
 }
 
-/// Writes the list as a rules file to the front of `text`, and gives the file's bytes: 1, 2, 4.
+/// Writes the list as a rules file to the front of `text`, and gives the file's bytes: 1, 2, 11, 4.
 pub fn rules_write<'a>(rules: &[u32], text: &'a mut [u8]) -> Result<&'a [u8], Refusal> {
     let [bytes, ..] = answered(|answer| unsafe {
         raw::wick_rules_write(rules.as_ptr(), rules.len() as u64, text.as_mut_ptr(), text.len() as u64, answer)
@@ -172,7 +172,7 @@ pub fn rules_write<'a>(rules: &[u32], text: &'a mut [u8]) -> Result<&'a [u8], Re
 }
 
 /// Reads a rules file, writes ten words for each rule to the front of `rules`, and gives the number of rules: 9 or 10,
-/// 4.
+/// 11, 4. The rules of an 11 are counted from 0, as everywhere.
 pub fn rules_read(text: &[u8], rules: &mut [u32]) -> Result<usize, Refusal> {
     answered(|answer| unsafe {
         raw::wick_rules_read(text.as_ptr(), text.len() as u64, rules.as_mut_ptr(), rules.len() as u64, answer)

@@ -20,7 +20,7 @@ pub struct Policy {
 }
 
 impl Policy {
-    /// The list that a rules file holds, with no tree: 9 or 10.
+    /// The list that a rules file holds, with no tree: 9, 10 or 11.
     pub fn read(rules_file: &[u8]) -> Result<Policy, Refusal> {
         let mut rules = vec![0; MOST_RULE_WORDS];
         let count = calls::rules_read(rules_file, &mut rules)?;

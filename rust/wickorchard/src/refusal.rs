@@ -32,6 +32,8 @@ pub enum Refusal {
     LineWrong { line: u64 },
     /// 10: the text stops before its end line, after so many whole lines.
     TextStops { lines: u64 },
+    /// 11: a rule has the words of an earlier one. This is the lowest such rule, and the earlier one.
+    RuleHasTwin { rule: u64, earlier: u64 },
 }
 
 impl Refusal {
@@ -50,6 +52,7 @@ impl Refusal {
             (8, rule) => Refusal::LeafLacksRule { node: place, rule },
             (9, _) => Refusal::LineWrong { line: place },
             (10, _) => Refusal::TextStops { lines: place },
+            (11, earlier) => Refusal::RuleHasTwin { rule: place, earlier },
             _ => unreachable!("the library's calls give no refusal {number}"),
         })
     }
@@ -68,6 +71,7 @@ impl Refusal {
             Refusal::LeafLacksRule { node, rule } => (8, node, rule),
             Refusal::LineWrong { line } => (9, line, 0),
             Refusal::TextStops { lines } => (10, lines, 0),
+            Refusal::RuleHasTwin { rule, earlier } => (11, rule, earlier),
         }
     }
 }

@@ -25,11 +25,17 @@ fn rules() -> Vec<u32> {
     [first, second, EVERYTHING].concat()
 }
 
-/// Lists that are good, not whole, too long, and not good.
+/// So many rules. They differ in the ends of the source port, and all match every legal header of `HEADERS`.
+fn wide_rules(count: u32) -> Vec<u32> {
+    (0..count).flat_map(|number| [0, 0, 0, 0, number, 65_535 - number, 0, 65_535, 0, 255]).collect()
+}
+
+/// Lists that are good, not whole, too long, not good, and with twins.
 fn lists() -> Vec<Vec<u32>> {
     let mut bad = rules();
     bad[14] = 65_536;
-    vec![rules(), Vec::new(), rules()[1..].to_vec(), EVERYTHING.repeat(513), bad]
+    let twins = [&rules()[..], &rules()[10..20]].concat();
+    vec![rules(), Vec::new(), rules()[1..].to_vec(), EVERYTHING.repeat(513), bad, twins]
 }
 
 /// Trees that are right for the worked policy, and that are refused with 5, 6, 7 and 8.
@@ -125,9 +131,8 @@ fn ports(count: u32) -> Vec<u32> {
 
 #[test]
 fn the_compiler() {
-    // 512 nested ranges have a tree past the limits.
-    let nested = (0..512).flat_map(|end| [0, 0, 0, 0, end, 65_535 - end, 0, 65_535, 0, 255]).collect();
-    for rules in lists().into_iter().chain([ports(8), ports(9), ports(40), EVERYTHING.repeat(512), nested]) {
+    // 60 of the wide rules have a tree within the limits, and 512 have one past them.
+    for rules in lists().into_iter().chain([ports(8), ports(9), ports(40), wide_rules(60), wide_rules(512)]) {
         for [node_room, pool_room] in [[0, 0], [3, 2], [3, 600], [8, 20], [9, 10], [9, 20], [100, 20], [7_000, 5_000]] {
             let [mut nodes, mut wanted_nodes] = [vec![7; node_room], vec![7; node_room]];
             let [mut pool, mut wanted_pool] = [vec![7; pool_room], vec![7; pool_room]];
@@ -149,7 +154,7 @@ fn a_policy_that_is_compiled_answers_as_its_list() {
     let destination = |strip: u32| [0, 0, strip << 24, 8, 0, 65_535, 0, 65_535, 0, 255];
     let grid = (0..256).flat_map(|strip| [source(strip), destination(strip)]).flatten().collect();
     let over = Err(Refusal::PoolShort { needed: 4_104 });
-    for (rules, compiled) in [(rules(), Ok(())), (ports(40), Ok(())), (EVERYTHING.repeat(512), Ok(())), (grid, over)] {
+    for (rules, compiled) in [(rules(), Ok(())), (ports(40), Ok(())), (wide_rules(60), Ok(())), (grid, over)] {
         let file = calls::rules_write(&rules, &mut text).expect("the list is good");
         let list = Policy::read(file).expect("the list is good");
         let mut policy = list.clone();
@@ -185,7 +190,8 @@ fn the_writers() {
 
 #[test]
 fn the_readers() {
-    for text in [RULES_FILE, &RULES_FILE[1..], &RULES_FILE[..RULES_FILE.len() - 1], TREE_FILE, b""] {
+    let twins = String::from_utf8_lossy(RULES_FILE).replace("10.0.0.0/8", "10.1.0.0/16").replace("80\t80", "0\t1023");
+    for text in [RULES_FILE, &RULES_FILE[1..], &RULES_FILE[..RULES_FILE.len() - 1], TREE_FILE, b"", twins.as_bytes()] {
         for room in [0, 29, 30, 40] {
             let [mut words, mut wanted] = [vec![7; room], vec![7; room]];
             let answer = oracle::rules_read(text, &mut wanted);
@@ -230,14 +236,14 @@ fn a_policy_answers_by_its_list_until_a_tree_is_accepted() {
 
 #[test]
 fn a_list_of_512_rules_that_all_match() {
-    let rules = EVERYTHING.repeat(MOST_RULES);
+    let rules = wide_rules(512);
     let [mut rules_text, mut tree_text] = [vec![0; 65_536], vec![0; 65_536]];
     let rules_file = calls::rules_write(&rules, &mut rules_text).expect("the list is good");
     let numbers: Vec<u32> = (0..512).collect();
     let one_leaf = Tree { nodes: &[5, 0, 512], pool: &numbers };
     let tree_file = calls::tree_write(512, one_leaf, &mut tree_text).expect("the tree is spelt");
     let mut policy = Policy::read(rules_file).expect("the list is good");
-    let header = Header::try_from([u32::MAX, u32::MAX, 65_535, 65_535, 255]).expect("the header is legal");
+    let header = Header::try_from([u32::MAX, u32::MAX, 40_000, 65_535, 255]).expect("the header is legal");
     assert_eq!(policy.all(&header, &mut [7; MOST_RULES]), numbers);
     assert_eq!(policy.read_tree(tree_file), Ok(Figures { cuts: 0, longest_leaf: 512 }));
     assert_eq!(policy.all(&header, &mut [7; MOST_RULES]), numbers);

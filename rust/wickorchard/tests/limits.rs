@@ -76,6 +76,7 @@ fn the_refusals_have_the_numbers_of_the_c_header() {
         ("LEAF_LACKS_RULE", Refusal::LeafLacksRule { node: 7, rule: 8 }),
         ("LINE_WRONG", Refusal::LineWrong { line: 7 }),
         ("TEXT_STOPS", Refusal::TextStops { lines: 7 }),
+        ("RULE_HAS_TWIN", Refusal::RuleHasTwin { rule: 7, earlier: 6 }),
     ] {
         assert_eq!(in_c(name), refusal.number_place_extra().0, "{name}");
     }

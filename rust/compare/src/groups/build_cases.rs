@@ -6,7 +6,7 @@ use crate::bench::{Bench, Run};
 use crate::draws::Draws;
 use crate::headers::LARGEST;
 use crate::lists::{self, Rule, EVERYTHING};
-use crate::shared_ends::{put, with};
+use crate::shared_ends::{around_a_header, put, variant, with};
 use crate::trees::{self, Policy};
 
 const PURPOSE: &str = "correctness";
@@ -19,7 +19,7 @@ const PARTED: usize = 9;
 
 pub fn run(bench: &mut Bench) -> Run {
     bench.group(PURPOSE, "build: every set of fields that tie, with 1 to 9 values each", ties)?;
-    bench.group(PURPOSE, "build: 1 to 30 values of a field, of which the middle one is taken", middles)?;
+    bench.group(PURPOSE, "build: 2 to 30 values of a field, of which the middle one is taken", middles)?;
     bench.group(PURPOSE, "build: 0 to 40 rules apart, so that 8 and 9 rules meet a box", apart)?;
     bench.group(PURPOSE, "build: boxes that more than 8 rules cover, without cut values", covered)?;
     bench.group(PURPOSE, "build: ranges and prefixes at the ends of their fields", outer_ends)
@@ -52,37 +52,71 @@ fn end_from_zero(field: usize, number: u32) -> u32 {
     }
 }
 
-/// The fields of the set have so many cut values, and the others have one less. The lowest of the set is cut.
+/// The fields of the set have so many cut values, and the others have one less. The lowest of the set is cut. Where
+/// there are too few values for nine rules that differ, nothing is tried.
 fn ties(bench: &mut Bench) -> Run {
+    let mut tried = 0;
     for set in 1..32_u32 {
         for count in 1..=PARTED {
-            let mut rules = [EVERYTHING; PARTED];
-            for field in 0..5 {
-                let has_most = set >> field & 1 == 1;
-                for number in 0..if has_most { count } else { count - 1 } {
-                    // The rules that give a field's values stand in another order for each field.
-                    let rule = &mut rules[(2 * number + field) % PARTED];
-                    *rule = put(*rule, field, from_zero(field, number as u32));
-                }
-            }
+            let counts = std::array::from_fn(|field| count - usize::from(set >> field & 1 == 0));
+            let Some(rules) = nine_rules(counts) else { continue };
             let case = format!("fields of the set {set} have {count} values");
             let Policy { nodes, .. } = build_well(bench, &case, &rules)?;
             let field = set.trailing_zeros();
             let value = end_from_zero(field as usize, count as u32 / 2);
             assert_eq!(nodes[..2], [field, value], "the oracle: {case}");
+            tried += 1;
         }
     }
+    assert!(tried > 31 * 8, "nearly all of them are tried: {tried}");
     Ok(())
 }
 
-/// M values, odd and even: the root is cut at the one of place M / 2. Repeated rules change nothing.
+/// Nine rules that differ, whose fields have so many cut values; None where there are not so many.
+fn nine_rules(counts: [usize; 5]) -> Option<[Rule; PARTED]> {
+    let mut rules = [EVERYTHING; PARTED];
+    for field in 0..5 {
+        for number in 0..counts[field] {
+            // The rules that give a field's values stand in another order for each field.
+            let rule = &mut rules[(2 * number + field) % PARTED];
+            *rule = put(*rule, field, from_zero(field, number as u32));
+        }
+    }
+    let mut others = combinations(counts).into_iter();
+    for later in 1..PARTED {
+        while rules[..later].contains(&rules[later]) {
+            rules[later] = others.next()?;
+        }
+    }
+    Some(rules)
+}
+
+/// Rules of such fields. Each field is whole or ends at its first or its last cut value; a port or protocol may begin
+/// after the first, too.
+fn combinations(counts: [usize; 5]) -> Vec<Rule> {
+    (0..5).fold(vec![EVERYTHING], |rules, field| {
+        let mut pairs = vec![[EVERYTHING[2 * field], EVERYTHING[2 * field + 1]]];
+        if counts[field] > 0 {
+            pairs.extend([0, counts[field] - 1].map(|number| from_zero(field, number as u32)));
+        }
+        if counts[field] > 0 && field >= 2 {
+            pairs.push([end_from_zero(field, 0) + 1, LARGEST[field]]);
+        }
+        rules.iter().flat_map(|&rule| pairs.iter().map(move |&pair| put(rule, field, pair))).collect()
+    })
+}
+
+/// M values, odd and even: the root is cut at the one of place M / 2. Values that several rules give change nothing.
+/// The other fields have one value each.
 fn middles(bench: &mut Bench) -> Run {
     for field in 0..5 {
-        for count in 1..=30 {
+        for count in 2..=30 {
             for copies in [1, 2] {
-                let mut rules: Vec<Rule> = (0..count).map(|number| with(field, from_zero(field, number))).collect();
-                rules = rules.repeat(copies);
-                rules.resize(rules.len().max(PARTED), EVERYTHING);
+                let copy = |number: u32, copy: usize| variant(with(field, from_zero(field, number)), field, copy);
+                let mut rules: Vec<Rule> =
+                    (0..copies).flat_map(|which| (0..count).map(move |number| copy(number, which))).collect();
+                let whole = PARTED.saturating_sub(rules.len());
+                rules.extend((0..whole).map(|number| variant(EVERYTHING, field, number)));
                 let first = count as usize % rules.len();
                 rules.rotate_left(first);
                 let case = format!("{count} values of field {field}, each {copies} times");
@@ -113,29 +147,29 @@ fn apart(bench: &mut Bench) -> Run {
             }
             // With rules over all of them, each box is met by as many more.
             for more in [1, 7, 8, 9] {
-                let all = [&rules[..], &vec![EVERYTHING; more]].concat();
-                build_well(bench, &format!("{case}, and everything {more} times"), &all)?;
+                let over: Vec<Rule> = (0..more).map(|number| variant(EVERYTHING, field, number)).collect();
+                let all = [&rules[..], &over].concat();
+                build_well(bench, &format!("{case}, and {more} over all of them"), &all)?;
             }
         }
     }
     Ok(())
 }
 
-/// The same box for all rules, with ends in one field or in all of them: a leaf lists it whole, however long it is.
+/// A box that all rules cover, with ends in one field or in all of them: a leaf lists them all, however many they are.
+/// 450 is about the most for which the tree is within the limits.
 fn covered(bench: &mut Bench) -> Run {
-    let inside = [0x0A00_0000, 8, 0xC0A8_0000, 16, 80, 90, 1_024, 65_535, 6, 6];
-    for count in [1, 8, 9, 10, 20, 100, 511, 512] {
-        let case = format!("everything, {count} times");
-        let Policy { nodes, .. } = build_well(bench, &case, &vec![EVERYTHING; count])?;
-        assert_eq!(nodes, [5, 0, count as u32], "the oracle: {case}");
-        let mut boxes: Vec<Rule> =
-            (0..5).map(|field| with(field, [inside[2 * field], inside[2 * field + 1]])).collect();
-        boxes.push(inside);
-        for rule in boxes {
-            let case = format!("{rule:?}, {count} times");
-            let Policy { nodes, .. } = build_well(bench, &case, &vec![rule; count])?;
-            let longest = nodes.chunks(3).filter(|node| node[0] == 5).map(|node| node[2]).max();
-            assert_eq!(longest, Some(count as u32), "the oracle: {case}");
+    for count in [1, 8, 9, 10, 20, 100, 300, 450] {
+        let case = format!("{count} rules around a header");
+        let policy = build_well(bench, &case, &around_a_header(count))?;
+        assert_eq!(longest_leaf(&policy), count as u32, "the oracle: {case}");
+    }
+    for (field, most) in [32, 32, 88, 88, 85].into_iter().enumerate() {
+        for count in [1, 8, 9, 10, 20, most] {
+            let case = format!("{count} ranges of field {field} from 0 on");
+            let rules: Vec<Rule> = (0..count).map(|number| with(field, from_zero(field, number))).collect();
+            let policy = build_well(bench, &case, &rules)?;
+            assert_eq!(longest_leaf(&policy), count, "the oracle: {case}");
         }
     }
     // Rules inside each other in all fields: the innermost box is covered by all of them.
@@ -146,6 +180,12 @@ fn covered(bench: &mut Bench) -> Run {
     Ok(())
 }
 
+/// The entries of the longest leaf.
+fn longest_leaf(policy: &Policy) -> u32 {
+    let leaves = policy.nodes.chunks(3).filter(|node| node[0] == 5);
+    leaves.map(|node| node[2]).max().expect("a tree has a leaf")
+}
+
 /// A rule inside the one before it, with other ends in every field.
 fn nested(number: u32) -> Rule {
     let inner = number + 1;
@@ -153,14 +193,20 @@ fn nested(number: u32) -> Rule {
     (2..5).fold(put(with(0, address), 1, address), |rule, field| put(rule, field, [inner, LARGEST[field] - inner]))
 }
 
-/// Nine copies of a rule have two cut values, or one at an end of the field, or none.
+/// Nine rules that are the same in a field have two cut values of it, or one at an end of the field, or none. Each of
+/// the other fields has one, and each cut leaves nine rules on one side only.
 fn outer_ends(bench: &mut Bench) -> Run {
     let mut draws = Draws::seeded(1_300_000);
     let expect = |bench: &mut Bench, field: usize, pair: [u32; 2], low: u32, high: u32| -> Run {
         let case = format!("nine times {pair:?} in field {field}");
-        let policy = build_well(bench, &case, &[with(field, pair); PARTED])?;
-        let values = usize::from(low > 0) + usize::from(high < LARGEST[field]);
-        assert_eq!(policy.node_count(), 2 * values + 1, "the oracle: {case}");
+        let rules: Vec<Rule> = (0..PARTED).map(|number| variant(with(field, pair), field, number)).collect();
+        let policy = build_well(bench, &case, &rules)?;
+        let mut cuts: Vec<u32> =
+            policy.nodes.chunks(3).filter(|node| node[0] == field as u32).map(|node| node[1]).collect();
+        cuts.sort_unstable();
+        let below = low.checked_sub(1);
+        let values: Vec<u32> = below.into_iter().chain(Some(high).filter(|&high| high < LARGEST[field])).collect();
+        assert_eq!((cuts, policy.node_count()), (values.clone(), 2 * (values.len() + 4) + 1), "the oracle: {case}");
         Ok(())
     };
     for (field, top) in LARGEST.into_iter().enumerate().skip(2) {

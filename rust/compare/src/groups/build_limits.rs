@@ -7,7 +7,7 @@ use crate::bench::{Agreed, Bench, Run};
 use crate::deepest::DEEPEST;
 use crate::groups::build_cases::{build_well, AMPLE};
 use crate::lists::{Rule, EVERYTHING};
-use crate::shared_ends::with;
+use crate::shared_ends::{put, with};
 
 const PURPOSE: &str = "limits";
 
@@ -25,11 +25,12 @@ fn list_sizes(bench: &mut Bench) -> Run {
     for size in [0, 1, 2, 8, 9, 10, 63, 64, 65, 255, 256, 511, 512, 513] {
         for field in 0..5 {
             let strip = |number: u32| match field {
-                0 | 1 => [number << 22, 10],
-                4 => [number % 256; 2],
-                _ => [100 * number, 100 * number + 99],
+                0 | 1 => with(field, [number << 22, 10]),
+                // There are 256 protocols. After them they come again, without the lowest destination ports.
+                4 => put(with(4, [number % 256; 2]), 3, [number / 256, 65_535]),
+                _ => with(field, [100 * number, 100 * number + 99]),
             };
-            let rules: Vec<Rule> = (0..size).map(|number| with(field, strip(number))).collect();
+            let rules: Vec<Rule> = (0..size).map(strip).collect();
             let case = format!("{size} strips of field {field}");
             if size > 512 {
                 let answer = bench.build(&case, &rules.concat(), AMPLE)?;
@@ -64,11 +65,15 @@ fn refused(case: &str, answer: Agreed, wanted: [usize; 2]) -> Run {
     Ok(())
 }
 
-/// Rules for every second of so many strips of sources; nine for one destination and one port, which part each strip
-/// six times; and some for the last source and single ports.
+/// Rules for every second of so many strips of sources; nine around one destination, one pair of ports and one
+/// protocol, of which some hold the next value too, and which part each strip again and again; and some for the last
+/// source and single ports.
 fn many_nodes(strips: u32, ports: u32) -> Vec<Rule> {
     let mut rules: Vec<Rule> = (0..strips).map(|strip| with(0, [(2 * strip + 1) << 20, 12])).collect();
-    rules.extend([[0, 0, 77, 32, 0, 65_535, 7, 7, 0, 255]; 9]);
+    rules.extend((0..9).map(|number| {
+        let more = |bit: u32| number >> bit & 1;
+        [0, 0, 76, 32 - more(3), 7, 7 + more(0), 7, 7 + more(1), 7, 7 + more(2)]
+    }));
     rules.extend((0..ports).map(|port| [u32::MAX, 32, 0, 0, 2 * port + 1, 2 * port + 1, 0, 65_535, 0, 255]));
     rules
 }
@@ -81,7 +86,7 @@ fn many_entries(nested: u32, single: u32) -> Vec<Rule> {
 }
 
 fn just_within(bench: &mut Bench) -> Run {
-    for (strips, ports) in [(112, 6), (121, 3), (126, 1)] {
+    for (strips, ports) in [(73, 38), (75, 19)] {
         let case = format!("{strips} strips around a point, {ports} ports");
         let rules = many_nodes(strips, ports);
         let policy = build_well(bench, &case, &rules)?;

@@ -5,13 +5,13 @@ use crate::damages::damaged_rules;
 use crate::draws::Draws;
 use crate::groups::build_cases::AMPLE;
 use crate::lists::{self, Rule, EVERYTHING, MANNERS};
-use crate::shared_ends::{self, with};
+use crate::shared_ends::{self, around_a_header, variant, with};
 use crate::trees::{self, Policy};
 
 pub fn run(bench: &mut Bench) -> Run {
     bench.group("limits", "build: every room of nodes and of the pool, small trees", small_trees)?;
     bench.group("limits", "build: drawn rooms about larger trees", larger_trees)?;
-    bench.group("damage", "build: bad lists beside short rooms, in the order 1, 2, 4", bad_lists)
+    bench.group("damage", "build: bad lists beside short rooms, in the order 1, 2, 11, 4", bad_lists)
 }
 
 /// The nodes of a tree that a build comes to in turn: the node words up to and with each, the entries likewise.
@@ -51,8 +51,8 @@ fn small_trees(bench: &mut Bench) -> Run {
     let mut trees = vec![
         ("no rules".to_string(), Vec::new()),
         ("one rule".to_string(), vec![EVERYTHING]),
-        ("nine times one range".to_string(), vec![with(2, [100, 200]); 9]),
-        ("nine in all fields".to_string(), vec![[0x0A00_0000, 8, 1, 32, 5, 6, 7, 8, 9, 9]; 9]),
+        ("nine times one range".to_string(), (0..9).map(|number| variant(with(2, [100, 200]), 2, number)).collect()),
+        ("nine around a header".to_string(), around_a_header(9)),
     ];
     for seed in 1_340_000..1_340_160 {
         let mut draws = Draws::seeded(seed);
@@ -138,10 +138,25 @@ fn bad_lists(bench: &mut Bench) -> Run {
             expect(bench, &case, &rules.concat(), room, (2, place.min(other)))?;
         }
         for &room in &rooms {
+            twins(bench, seed, &good, room)?;
             broken_lengths(bench, seed, &good, room)?;
         }
     }
     Ok(())
+}
+
+/// The last rule is made the first: 11, however short the room is; and 2 where a rule is bad besides.
+fn twins(bench: &mut Bench, seed: u64, good: &[Rule], room: [usize; 2]) -> Run {
+    let last = good.len() - 1;
+    if last == 0 {
+        return Ok(());
+    }
+    let mut rules = good.to_vec();
+    rules[last] = rules[0];
+    let case = format!("seed {seed}, list of {} whose last rule is its first", good.len());
+    expect(bench, &case, &rules.concat(), room, (11, last))?;
+    rules[last / 2][3] = 33;
+    expect(bench, &case, &rules.concat(), room, (2, last / 2))
 }
 
 /// A word too few, a word too many, 513 rules, or these and a word: 1, though a rule is bad besides.

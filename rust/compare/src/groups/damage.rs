@@ -50,7 +50,7 @@ fn stray_bits(bench: &mut Bench) -> Run {
                     rule[2 * field + 1] = length;
                     let case = format!("field {field}, length {length}, stray bit {position} of {address:#010x}");
                     let header = headers::with([0; 5], field, address);
-                    let rules = [EVERYTHING, rule, EVERYTHING];
+                    let rules = [EVERYTHING, rule, WORKED_POLICY[0]];
                     expect_bad_rule(bench, &case, &rules, &header, 1)?;
                     let answer = bench.read_in_rooms(&case, &texts::rules_file(3, &rules))?;
                     assert_eq!((answer.number, answer.place), (9, 3), "the oracle: {case}");
@@ -86,7 +86,7 @@ fn bad_after_match(bench: &mut Bench) -> Run {
         let mut draws = Draws::seeded(seed);
         let size = 2 + draws.below(100);
         let mut rules = lists::good_list(&mut draws, size, Manner::Mixed).rules;
-        rules[0] = EVERYTHING;
+        lists::put_everything(&mut rules, 0);
         let place = 1 + draws.below(size - 1);
         let kinds = damaged_rules(&rules[place]);
         let damaged = &kinds[draws.below(kinds.len())];

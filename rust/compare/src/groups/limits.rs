@@ -38,8 +38,9 @@ fn list_sizes(bench: &mut Bench) -> Run {
     }
     // Where every rule matches, every number is written, up to 511.
     for size in [0, 1, 511, 512, 513] {
-        let words = EVERYTHING.repeat(size);
-        bench.all_calls(&format!("everything, {size} times"), &words, &WORKED)?;
+        let words = lists::wide_rules(size).concat();
+        let answer = bench.all_calls(&format!("{size} wide rules"), &words, &WORKED)?;
+        assert_eq!(answer.a as usize, if size <= 512 { size } else { 0 }, "the oracle: {size} wide rules");
     }
     Ok(())
 }

@@ -29,11 +29,13 @@ mod tree_drawn;
 mod tree_limits;
 mod tree_order;
 mod tree_words;
+mod twin_orders;
+mod twins;
 
 use crate::bench::{Bench, Run};
 use crate::trials::Trials;
 
-/// Compares every group in turn: lists, then trees, then the compiler, then files.
+/// Compares every group in turn: lists, then trees, then the compiler, then files, then twins, which all of them judge.
 pub fn run(bench: &mut Bench) -> Run {
     correctness::run(bench)?;
     limits::run(bench)?;
@@ -60,7 +62,9 @@ pub fn run(bench: &mut Bench) -> Run {
     file_rooms::run(bench)?;
     text_damage::run(bench)?;
     text_cases::run(bench)?;
-    text_drawn::run(bench)
+    text_drawn::run(bench)?;
+    twins::run(bench)?;
+    twin_orders::run(bench)
 }
 
 /// Compares every group of the program's runs in turn.

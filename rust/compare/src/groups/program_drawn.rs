@@ -4,6 +4,7 @@ use oracle::tree_file::tree_text;
 
 use crate::bench::Run;
 use crate::draws::Draws;
+use crate::headers::{self, WORKED};
 use crate::heads;
 use crate::lists::{self, MANNERS};
 use crate::process::Feed;
@@ -103,13 +104,16 @@ fn damaged_rules(trials: &mut Trials) -> Run {
 
 /// Replies as long as they can be, from the tree and from the list, more of them than any buffer holds.
 fn longest_replies(trials: &mut Trials) -> Run {
-    let list = lists::List { rules: vec![lists::EVERYTHING; 512], points: Vec::new() };
-    let planted = trees::grown(&list, 7, &mut Draws::seeded(1_630_000));
-    let input = input(&planted, &mut Draws::seeded(1_630_001)).repeat(4);
+    let planted = trees::grown_full(&lists::wide_rules(512), 7, &mut Draws::seeded(1_630_000));
+    let mut draws = Draws::seeded(1_630_001);
+    let mut head = || heads::head(&headers::with(trees::header_for(&planted, &mut draws), 2, WORKED[2])) + "\n";
+    let input = (0..LINES).map(|_| head()).collect::<String>().repeat(4).into_bytes();
     let rules = Text::of_rules(&planted.policy.rules).bytes;
     for tree in [Text::of_tree(&planted.policy).bytes, Vec::new()] {
         for feed in [Feed::File, Feed::Pieces(1 << 16)] {
-            trials.compare("512 rules", &Stand::of(&*rules, &*tree), &input, feed)?;
+            let wrote = trials.compare("512 rules", &Stand::of(&*rules, &*tree), &input, feed)?;
+            let hits = wrote.split(|&byte| byte == b'\n').filter(|line| line.starts_with(b"hit\t512\t")).count();
+            assert_eq!(hits, 4 * LINES, "the oracle: every rule matches every header");
         }
     }
     Ok(())

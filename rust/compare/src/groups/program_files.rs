@@ -1,7 +1,9 @@
-//! The program's two files: missing, unreadable, cut at every byte, and at the limit of their length.
+//! The program's two files: missing, unreadable, cut at every byte, at the limit of their length, and with twins.
 
 use crate::bench::Run;
+use crate::draws::Draws;
 use crate::heads;
+use crate::lists;
 use crate::placed::Placed;
 use crate::process::Feed;
 use crate::texts::{self, Text};
@@ -16,7 +18,8 @@ pub fn run(trials: &mut Trials) -> Run {
     trials.group("rules.txt empty, and cut at every byte", cut_rules)?;
     trials.group("tree.txt empty, and cut at every byte", cut_trees)?;
     trials.group("files of 65,535, 65,536 and 65,537 bytes, and longer", long_files)?;
-    trials.group("files that come through a pipe, so that every read is short", piped_files)
+    trials.group("files that come through a pipe, so that every read is short", piped_files)?;
+    trials.group("rules.txt with twins, beside trees and none", twins)
 }
 
 fn worked() -> [Vec<u8>; 2] {
@@ -149,6 +152,29 @@ fn piped_files(trials: &mut Trials) -> Run {
             let stand = with_tree(Placed::Pipe(tree_of_length(length), piece));
             trials.compare(&format!("tree of {length} bytes"), &stand, &input(), Feed::File)?;
         }
+    }
+    Ok(())
+}
+
+/// The list is refused, and so nothing is answered, whatever stands in the tree's place.
+fn twins(trials: &mut Trials) -> Run {
+    let [_, tree] = worked();
+    let full = trees::grown_full(&lists::wide_rules(512), 7, &mut Draws::seeded(1_640_000)).policy;
+    let files = [tree.clone(), tree[1..].to_vec(), Vec::new(), Text::of_tree(&full).bytes].map(Placed::File);
+    for (size, later, earlier) in [(2, 1, 0), (3, 2, 0), (3, 2, 1), (4, 3, 1), (512, 511, 0), (512, 300, 299)] {
+        let mut rules = lists::wide_rules(size);
+        rules[later] = rules[earlier];
+        let text = texts::rules_file(size, &rules).bytes;
+        let case = format!("rule {later} of {size} is rule {earlier}");
+        for tree in files.iter().chain([&Placed::Missing]) {
+            let stand = Stand { rules: Placed::file(&*text), tree: tree.clone() };
+            let wrote = trials.compare(&case, &stand, &input(), Feed::File)?;
+            assert_eq!(wrote, format!("refused\t11\t{later}\t{earlier}\n").into_bytes(), "the oracle: {case}");
+            trials.ends_alone(&case, &stand)?;
+        }
+        let cut = &text[..text.len() - 1];
+        let wrote = trials.compare(&format!("{case}, cut"), &with_rules(Placed::file(cut)), &input(), Feed::File)?;
+        assert_eq!(wrote, refused_10(cut), "a text that is cut is not judged for twins");
     }
     Ok(())
 }

@@ -3,7 +3,7 @@
 use crate::bench::{Bench, Run};
 use crate::draws::Draws;
 use crate::headers::{self, WORKED};
-use crate::lists::{self, Manner, EVERYTHING, MANNERS, WORKED_POLICY};
+use crate::lists::{self, Manner, MANNERS, WORKED_POLICY};
 
 const PURPOSE: &str = "limits";
 
@@ -15,7 +15,7 @@ pub fn run(bench: &mut Bench) -> Run {
 fn every_list(bench: &mut Bench) -> Run {
     every_room(bench, "worked policy", &WORKED_POLICY.concat(), &WORKED)?;
     for size in [1, 2, 17, 511, 512] {
-        every_room(bench, &format!("everything, {size} times"), &EVERYTHING.repeat(size), &WORKED)?;
+        every_room(bench, &format!("{size} wide rules"), &lists::wide_rules(size).concat(), &WORKED)?;
     }
     let mut seed = 220_000;
     for size in [1, 2, 3, 5, 8, 13, 20, 34, 55, 80, 130, 200] {

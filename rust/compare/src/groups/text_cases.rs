@@ -13,10 +13,11 @@ pub fn run(bench: &mut Bench) -> Run {
     bench.group(PURPOSE, "tree files: chosen faults, alone and together", tree_files)
 }
 
-/// What is wrong, the text, and the refusal's number and place. Lines are parted by `|`, fields by a blank.
+/// What is wrong, the text, and the refusal's number and place. Lines are parted by `|`, fields by a blank; A and B are
+/// the fields of two rules, which differ in the last.
 type Case = (&'static str, &'static str, u64, u64);
 
-const RULES_CASES: [Case; 42] = [
+const RULES_CASES: [Case; 56] = [
     ("good", "rules 1|rule 0 1.2.3.4/32 0.0.0.0/0 0 9 1 1 6 6|end 2|", 0, 0),
     ("no rules", "rules 0|end 1|", 0, 0),
     ("empty", "", 10, 0),
@@ -59,6 +60,20 @@ const RULES_CASES: [Case; 42] = [
     ("protocol 256", "rules 1|rule 0 1.2.3.4/32 0.0.0.0/0 0 9 1 1 6 256|end 2|", 9, 2),
     ("a range turned round", "rules 1|rule 0 1.2.3.4/32 0.0.0.0/0 0 9 2 1 6 6|end 2|", 9, 2),
     ("a field too many", "rules 1|rule 0 1.2.3.4/32 0.0.0.0/0 0 9 1 1 6 6 6|end 2|", 9, 2),
+    ("twins", "rules 2|rule 0 A|rule 1 A|end 3|", 11, 1),
+    ("no twins", "rules 2|rule 0 A|rule 1 B|end 3|", 0, 0),
+    ("twins apart", "rules 3|rule 0 A|rule 1 B|rule 2 A|end 4|", 11, 2),
+    ("twins of the second", "rules 3|rule 0 A|rule 1 B|rule 2 B|end 4|", 11, 2),
+    ("two pairs of twins", "rules 4|rule 0 A|rule 1 B|rule 2 B|rule 3 A|end 5|", 11, 2),
+    ("twins, and the text stops", "rules 2|rule 0 A|rule 1 A|", 10, 3),
+    ("twins, and an end without newline", "rules 2|rule 0 A|rule 1 A|end 3", 10, 3),
+    ("twins, and a rule less", "rules 3|rule 0 A|rule 1 A|end 3|", 9, 4),
+    ("twins, and a wrong end", "rules 2|rule 0 A|rule 1 A|end 2|", 9, 4),
+    ("twins, and a byte after the end", "rules 2|rule 0 A|rule 1 A|end 3|x", 9, 5),
+    ("twins, and a newline after the end", "rules 2|rule 0 A|rule 1 A|end 3||", 9, 5),
+    ("twins, and a wrong rule after them", "rules 3|rule 0 A|rule 1 A|rule 2 A 6|end 4|", 9, 4),
+    ("twins, and a wrong rule before them", "rules 3|rule 0 A 6|rule 1 A|rule 2 A|end 4|", 9, 2),
+    ("the same rule and number twice", "rules 2|rule 0 A|rule 0 A|end 3|", 9, 3),
 ];
 
 fn rules_files(bench: &mut Bench) -> Run {
@@ -129,6 +144,8 @@ fn tree_files(bench: &mut Bench) -> Run {
 
 fn each_case(bench: &mut Bench, file: File, cases: &[Case]) -> Run {
     for &(case, written, number, place) in cases {
+        let written =
+            written.replace('A', "1.2.3.0/24 0.0.0.0/0 0 9 1 1 6 6").replace('B', "1.2.3.0/24 0.0.0.0/0 0 9 1 1 6 7");
         let bytes = written.replace('|', "\n").replace(' ', "\t").into_bytes();
         let answer = bench.read_in_rooms(case, &Text { file, bytes, needed: NEEDED })?;
         assert_eq!((answer.number, answer.place), (number, place), "the oracle: {case}");

@@ -64,8 +64,8 @@ fn judge_twice(bench: &mut Bench, case: &str, policy: &Policy, verdicts: &mut [u
 /// Up to three rules that end somewhere in one or two fields.
 fn small_list(draws: &mut Draws) -> List {
     let fields = [draws.below(5), draws.below(5)];
-    let rules: Vec<Rule> = (0..draws.below(4)).map(|_| small_rule(draws, fields)).collect();
-    List { rules, points: Vec::new() }
+    let count = draws.below(4);
+    List { rules: lists::different(count, || small_rule(draws, fields)), points: Vec::new() }
 }
 
 fn small_rule(draws: &mut Draws, fields: [usize; 2]) -> Rule {

@@ -2,15 +2,16 @@
 
 use crate::bench::{Bench, Run};
 use crate::lists::EVERYTHING;
+use crate::shared_ends::with;
 use crate::trees::Policy;
 
 pub fn run(bench: &mut Bench) -> Run {
     bench.group("damage", "tree check: spelt, then the walk, then 8, each in its order", chosen_faults)
 }
 
-/// Trees of two rules that match everything, with the refusal that they get.
+/// Trees of two rules that meet every leaf, with the refusal that they get. They are cut by the protocol alone.
 fn chosen_faults(bench: &mut Bench) -> Run {
-    let rules = [EVERYTHING, EVERYTHING].concat();
+    let rules = [EVERYTHING, with(3, [0, 80])].concat();
     for (case, nodes, pool, number, place, extra) in chosen_cases() {
         let policy = Policy { rules: rules.clone(), nodes: nodes.concat(), pool: pool.to_vec() };
         bench.write_tree(case, &policy)?;

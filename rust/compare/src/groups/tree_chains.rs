@@ -6,6 +6,7 @@ use oracle::Answer;
 use crate::bench::{Bench, Run};
 use crate::headers::{LARGEST, WORKED};
 use crate::lists::EVERYTHING;
+use crate::shared_ends::with;
 use crate::trees::{cut, leaf, Policy};
 
 const PURPOSE: &str = "limits";
@@ -48,8 +49,10 @@ pub fn chain(field: usize, way: Way, cuts: u32, entries: &[u32]) -> Part {
 }
 
 fn chains(bench: &mut Bench) -> Run {
-    let rules = [EVERYTHING, EVERYTHING];
     for field in 0..5 {
+        // Both rules hold every header that is searched for.
+        let narrower = if field == 4 { with(3, [80, 80]) } else { with(4, [6, 6]) };
+        let rules = [EVERYTHING, narrower];
         for way in [Way::Left, Way::Right, Way::Turning] {
             for cuts in [1, 2, 31, 32, 33, 61, 62, 63, 64, 65, 66, 100] {
                 let root = chain(field, way, cuts, &[0, 1]);

@@ -5,7 +5,7 @@ use oracle::Answer;
 use crate::bench::{Bench, Run};
 use crate::draws::Draws;
 use crate::headers::{Header, WORKED};
-use crate::lists::{self, List, EVERYTHING, MANNERS};
+use crate::lists::{self, MANNERS};
 use crate::trees::{self, cut, leaf, Planted, Policy};
 
 const PURPOSE: &str = "correctness";
@@ -145,10 +145,8 @@ fn every_room(bench: &mut Bench) -> Run {
     let worked = trees::worked();
     each_room(bench, "worked policy", &worked.policy, &WORKED)?;
     for size in [1, 2, 17, 511, 512] {
-        let list = List { rules: vec![EVERYTHING; size], points: Vec::new() };
-        let mut draws = Draws::seeded(530_000);
-        let planted = trees::grown(&list, 3, &mut draws);
-        each_room(bench, &format!("seed 530000, everything, {size} times"), &planted.policy, &WORKED)?;
+        let planted = trees::grown_full(&lists::wide_rules(size), 3, &mut Draws::seeded(530_000));
+        each_room(bench, &format!("seed 530000, {size} wide rules"), &planted.policy, &WORKED)?;
     }
     let mut seed = 530_001;
     for size in [1, 2, 3, 5, 8, 13, 20, 34, 55, 80] {

@@ -3,7 +3,7 @@
 
 use crate::bench::{Bench, Run};
 use crate::draws::Draws;
-use crate::lists::{self, List, EVERYTHING, MANNERS};
+use crate::lists::{self, MANNERS};
 use crate::tree_damages::{self, DamagedTree};
 use crate::trees::{self, Planted};
 
@@ -88,7 +88,7 @@ pub fn good_tree(draws: &mut Draws) -> Planted {
     match draws.below(8) {
         0 => trees::worked(),
         1 | 2 => trees::built(&list, 1 + size / 8, 63),
-        3 | 4 => trees::grown(&List { rules: vec![EVERYTHING; size], points: Vec::new() }, 6, draws),
+        3 | 4 => trees::grown_full(&lists::wide_rules(size), 6, draws),
         5 => trees::grown(&list, 40, draws),
         _ => trees::grown(&list, 5, draws),
     }

@@ -4,7 +4,7 @@ use crate::bench::{Bench, Run};
 use crate::draws::Draws;
 use crate::groups::tree_damage::good_tree;
 use crate::headers::{self, Header};
-use crate::lists::{Rule, EVERYTHING};
+use crate::lists::{self, Rule, EVERYTHING};
 use crate::trees::{self, Policy};
 
 const PURPOSE: &str = "damage";
@@ -66,7 +66,7 @@ fn small_words(bench: &mut Bench) -> Run {
 
 fn small_policy(draws: &mut Draws) -> Policy {
     let rule_count = draws.below(4);
-    let rules: Vec<Rule> = (0..rule_count).map(|_| small_rule(draws)).collect();
+    let rules = lists::different(rule_count, || small_rule(draws));
     let node_count = draws.pick(&[1, 1, 2, 3, 3, 3, 4, 5, 5, 5, 7]);
     let mut nodes = Vec::new();
     let mut start = 0;
@@ -138,7 +138,7 @@ fn drawn_words(bench: &mut Bench) -> Run {
         bench.tree_check(&case, &policy)?;
         bench.write_tree(&case, &policy)?;
         bench.tree_searches(&case, &policy, &header)?;
-        let good_rules = Policy { rules: EVERYTHING.repeat(draws.below(5)), ..policy };
+        let good_rules = Policy { rules: lists::wide_rules(draws.below(5)).concat(), ..policy };
         let case = format!("seed {seed}, drawn words of a tree, good rules");
         bench.tree_check(&case, &good_rules)?;
         bench.write_tree(&case, &good_rules)?;

@@ -18,28 +18,31 @@ pub fn run(bench: &mut Bench) -> Run {
     bench.group(PURPOSE, "trees with two to four damages", several_damages)
 }
 
-/// The faults of a tree check that stand apart: 1, 2, 5, not spelt, a wrong walk, a leaf that lacks a rule.
+/// The faults of a tree check that stand apart: 1, 2, 11, 5, not spelt, a wrong walk, a leaf that lacks a rule.
 fn every_set(bench: &mut Bench) -> Run {
-    for set in 0..64_u32 {
+    for set in 0..128_u32 {
         let has = |fault: u32| (set >> fault) & 1 == 1;
         for form in 0..3 {
             let mut policy = trees::worked().policy;
-            if has(5) {
+            if has(6) {
                 // Node 4 lists rule 1 in place of rule 2.
                 policy.pool[4] = 1;
             }
-            if has(4) {
+            if has(5) {
                 match form {
                     0 => policy.nodes[1] = u32::MAX,
                     1 => policy.nodes[2] = 1,
                     _ => policy.pool[2] = 0,
                 }
             }
-            if has(3) {
+            if has(4) {
                 break_spelling(&mut policy, form);
             }
-            if has(2) {
+            if has(3) {
                 break_tree_words(&mut policy, form);
+            }
+            if has(2) {
+                make_twins(&mut policy, form);
             }
             if has(1) {
                 policy.rules[[9, 11, 24][form]] = [256, 33, 65_536][form];
@@ -51,9 +54,9 @@ fn every_set(bench: &mut Bench) -> Run {
             let answer = bench.tree_check(&case, &policy)?;
             let lowest = set.trailing_zeros();
             let right = match lowest {
-                0..=2 => answer.number == [1, 2, 5][lowest as usize],
-                3 | 4 => answer.number == 6 || answer.number == 7,
-                5 => (answer.number, answer.place, answer.extra) == (8, 4, 2),
+                0..=3 => answer.number == [1, 2, 11, 5][lowest as usize],
+                4 | 5 => answer.number == 6 || answer.number == 7,
+                6 => (answer.number, answer.place, answer.extra) == (8, 4, 2),
                 _ => answer == Answer::completed(2, 3, 0),
             };
             assert!(right, "the oracle: {case}: {answer:?}");
@@ -61,6 +64,12 @@ fn every_set(bench: &mut Bench) -> Run {
         }
     }
     Ok(())
+}
+
+/// Rule 1 is made rule 0, or rule 2 is made rule 0 or rule 1.
+fn make_twins(policy: &mut Policy, form: usize) {
+    let (later, earlier) = [(1, 0), (2, 0), (2, 1)][form];
+    policy.rules.copy_within(10 * earlier..10 * earlier + 10, 10 * later);
 }
 
 /// Node 0's first word, node 1's start, or node 4's start.

@@ -3,7 +3,7 @@
 use native.Mathlib.Omega.{arith}
 use mathlib.Core.Path.{sym}
 use lib.Seq.{length-take-le}
-use Rattle.rules.proofs.Lists.{fine-iff-good}
+use Rattle.rules.proofs.Lists.{good-of-fine}
 use Rattle.builder.proofs.Building.{boxes-few}
 use borrow.Author.Needs.{needs}
 use Rattle.builder.proofs.build.build_good.Statement.{statement}
@@ -18,13 +18,13 @@ slice-aggregate-fill-boxes c = search needs
 fill-boxes-requires : tie.Need-fill-boxes-requires
 fill-boxes-requires c κs =
     let s = c .before .before .before .before in
-    (s .pre, omega (arith, fine-iff-good _ .0 (s .pre) .few))
+    (s .pre, omega (arith, good-of-fine _ (s .pre) .few))
 
 array-share-prefix-boxes : tie.Need-array-share-prefix-boxes
 array-share-prefix-boxes c =
     omega (
       arith,
-      fine-iff-good _ .0 (c .before .before .before .before .before .before .pre) .few,
+      good-of-fine _ (c .before .before .before .before .before .before .pre) .few,
       c .before
           .fill-boxes .kept,
     )
@@ -35,14 +35,14 @@ slice-aggregate-build-boxes c =
     (length-take-le _ _
     (omega (
       arith,
-      fine-iff-good _ .0 (c .before .before .before .before .before .before .before .pre) .few,
+      good-of-fine _ (c .before .before .before .before .before .before .before .pre) .few,
       c .before
           .before .fill-boxes .kept,
     )))
 
 build-boxes-requires : tie.Need-build-boxes-requires
 build-boxes-requires c κs =
-    boxes-few _ _ (fine-iff-good _ .0 (c .before .before .before .before .before .before .before .before .before
+    boxes-few _ _ (good-of-fine _ (c .before .before .before .before .before .before .before .before .before
     .pre)) (c .before .before .before .before .fill-boxes .kept .1 .0)
 
 same-length : tie.Need-same-length

@@ -5,8 +5,9 @@ use mathlib.Core.Path.{ap, _∙_}
 use mathlib.Core.List.{List}
 use borrow.Author.Needs.{needs}
 use Rattle.facts.proofs.Bools.{held, failed}
-use Rattle.rules.specs.Good.{good}
-use Rattle.rule_file.proofs.Records.{number-fails, source-fails, destination-fails, rule-decides}
+use Rattle.rules.specs.Good.{ruleGood}
+use Rattle.rule_file.proofs.Lists.{one-good}
+use Rattle.rule_file.proofs.Records.{number-fails, source-fails, destination-fails, rule-decides, rule-length}
 use Rattle.rule_file.proofs.record.rule_fits.Statement.{statement}
 use Rattle.rule_file.proofs.record.rule_fits.Tie as tie
 
@@ -61,14 +62,18 @@ returns-3 c =
 rule-of-requires : tie.Need-rule-of-requires
 rule-of-requires c κs = search needs
 
+slice-aggregate-rule-good : tie.Need-slice-aggregate-rule-good
+slice-aggregate-rule-good c = search needs
+
 rule-good-requires : tie.Need-rule-good-requires
 rule-good-requires c κs = search needs
 
 returns-4 : tie.Need-returns-4
 returns-4 c =
-    let d = c .before .before in
+    let d = c .before .before .before in
     let s = d .before .before in
-    c .rule-good .ensures ∙ ap (λ (r : List ℕ). good r 0) (c .before .rule-of .ensures) ∙
+    c .rule-good .ensures ∙ ap (λ (r : List ℕ). ruleGood r 0) (c .before .before .rule-of .ensures) ∙
+    one-good _ (rule-length _) ∙
     rule-decides _ _ (s .before .before .if1 .left) (held (s .before .octets-fit .ensures) (s .if2 .left))
     (held (d .before .octets-fit2 .ensures) (d .if3 .left))
 
@@ -92,5 +97,6 @@ rule-fits-spec =
     octets-fit-requires-2
     returns-3
     rule-of-requires
+    slice-aggregate-rule-good
     rule-good-requires
     returns-4)

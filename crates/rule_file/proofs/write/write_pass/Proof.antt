@@ -8,7 +8,7 @@ use Rattle.text.specs.Puts.{Put}
 use Rattle.text.proofs.Files.{text-none, text-more}
 use Rattle.text.proofs.Puts.{put-none, put-then, put-same, put-length}
 use Rattle.rules.specs.Words.{ruleWords, mostRules, ruleCount}
-use Rattle.rules.proofs.Lists.{fine-iff-good}
+use Rattle.rules.proofs.Lists.{good-of-fine}
 use Rattle.rule_file.specs.ListText.{ruleLines}
 use Rattle.rule_file.specs.RuleText.{rulesFormat}
 use Rattle.rule_file.proofs.Writing.{text-parts}
@@ -23,7 +23,7 @@ abbrev μ-loop : tie.MeasureT-loop
 μ-loop rules text₀ count at₀ i₀ text at i = count - i
 
 put-first-requires : tie.Need-put-first-requires Inv-loop μ-loop
-put-first-requires c κs = omega (arith, fine-iff-good _ .0 (c .before .before .before .pre) .few)
+put-first-requires c κs = omega (arith, good-of-fine _ (c .before .before .before .pre) .few)
 
 loop-holds : tie.Need-loop-holds Inv-loop μ-loop
 loop-holds c = (put-same (sym (text-none _)) (put-none _ _ (omega arith)), refl, omega arith)
@@ -35,7 +35,7 @@ few-rules :
     length (w .args .rules .now) ≤ mostRules * ruleWords
 few-rules l =
     let w = l .before .before .before .before .before .before .before in
-    fine-iff-good (w .args .rules .now) .0 (w .pre) .few
+    good-of-fine (w .args .rules .now) (w .pre) .few
 
 put-rule-requires : tie.Need-put-rule-requires Inv-loop μ-loop
 put-rule-requires c κs = (omega (arith, few-rules (c .before .before)), omega arith)

@@ -1,79 +1,37 @@
--- `rules::check::list_verdict` meets its contract: the number of words decides first, and then the rules in turn.
--- The invariant: the rules before this one are fine, so what is left decides. Assumes nothing.
-use Prim.Native.Nat.{_≤_, _-_}
+-- `rules::check::list_verdict` meets its contract: what refuses before twins do decides first, and then twins. Assumes
+-- nothing.
 use native.Mathlib.Omega.{arith}
-use mathlib.Core.Path.{_≡_, refl, sym, _∙_}
+use mathlib.Core.Path.{sym, _∙_}
 use borrow.Author.Needs.{needs}
-use Rattle.facts.proofs.Bools.{held, failed}
-use Rattle.refusals.proofs.Turns.{Head, head-first, head-step, head-stop, head-last}
-use Rattle.rules.specs.Words.{ruleCount}
-use Rattle.rules.specs.Good.{ruleVerdict}
-use Rattle.rules.proofs.Lists.{not-whole, too-many, rules-decide, rule-refused, rule-fine}
+use Rattle.rules.proofs.Lists.{rules-fine-iff, rules-refuse, twins-decide}
 use Rattle.rules.proofs.check.list_verdict.Statement.{statement}
 use Rattle.rules.proofs.check.list_verdict.Tie as tie
 
-abbrev Inv-loop : tie.InvT-loop
-Inv-loop rules count rule₀ rule =
-    (count ≡ ruleCount rules) × (rule ≤ ruleCount rules) × Head (ruleCount rules) (ruleVerdict rules) rule
+rules-verdict-requires : tie.Need-rules-verdict-requires
+rules-verdict-requires c κs = search needs
 
-abbrev μ-loop : tie.MeasureT-loop
-μ-loop rules count rule₀ rule = ruleCount rules - rule
+enum-known-why : tie.Need-enum-known-why
+enum-known-why c = search needs
 
-returns : tie.Need-returns Inv-loop μ-loop
-returns c = not-whole _ (c .if1 .taken)
+enum-told : tie.Need-enum-told
+enum-told c = search needs
 
-mul-if2 : tie.Need-mul-if2 Inv-loop μ-loop
-mul-if2 c = search needs
+twins-verdict-requires : tie.Need-twins-verdict-requires
+twins-verdict-requires c κs =
+    let fine = sym (c .before .before .rules-verdict .ensures) ∙ c .enum-told .given .1 in
+    omega (arith, rules-fine-iff _ .0 fine .few)
 
-returns-2 : tie.Need-returns-2 Inv-loop μ-loop
-returns-2 c = too-many _ (c .before .if1 .left) (c .if2 .taken)
+returns : tie.Need-returns
+returns c =
+    sym (rules-refuse _ (sym (c .before .before .before .rules-verdict .ensures) ∙ c .before .why .given .1))
 
-loop-holds : tie.Need-loop-holds Inv-loop μ-loop
-loop-holds c = (refl, omega arith, head-first _ _)
-
-good-requires : tie.Need-good-requires Inv-loop μ-loop
-good-requires c κs = omega arith
-
-returns-3 : tie.Need-returns-3 Inv-loop μ-loop
-returns-3 c =
-    let h = c .before .before .before in
-    sym
-    (rules-decide _ (h .before .before .if1 .left) (h .before .if2 .left) ∙
-    head-stop (h .loop .inv .2) (omega arith) (rule-refused _ _ (failed (c .before .good2 .ensures) (c .if3 .taken))))
-
-add-rule : tie.Need-add-rule Inv-loop μ-loop
-add-rule c = omega arith
-
-loop-less : tie.Need-loop-less Inv-loop μ-loop
-loop-less c = omega arith
-
-loop-again : tie.Need-loop-again Inv-loop μ-loop
-loop-again c =
-    let h = c .before .before .before in (
-      refl,
-      omega arith,
-      head-step (h .loop .inv .2) (omega arith) (rule-fine _ _ (held (c .before .good2 .ensures) (c .if3 .left))),
-    )
-
-returns-4 : tie.Need-returns-4 Inv-loop μ-loop
-returns-4 c =
-    let h = c .before in
-    sym
-    (rules-decide _ (h .before .before .if1 .left) (h .before .if2 .left) ∙ head-last (h .loop .inv .2) (omega arith))
+returns-2 : tie.Need-returns-2
+returns-2 c =
+    let told = c .before in
+    let fine = sym (told .before .before .rules-verdict .ensures) ∙ told .enum-told .given .1 in
+    c .twins-verdict .ensures ∙ sym (twins-decide _ fine)
 
 pub list-verdict-spec : {M : Type 1} → statement M
 list-verdict-spec =
     tie.close
-    (tie.spec
-    Inv-loop
-    μ-loop
-    returns
-    mul-if2
-    returns-2
-    loop-holds
-    good-requires
-    returns-3
-    add-rule
-    loop-less
-    loop-again
-    returns-4)
+    (tie.spec rules-verdict-requires enum-known-why enum-told twins-verdict-requires returns returns-2)

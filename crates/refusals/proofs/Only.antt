@@ -1,15 +1,22 @@
 -- Refusals of a kind: verdicts that refuse, if at all, with a refusal of which P holds.
 use Prim.Native.Nat.{ℕ, zero, suc, _+_}
 use mathlib.Core.Bool.{Bool, true, false, cond}
+use mathlib.Core.Path.{_≡_, sym, subst}
 use Rattle.refusals.specs.declared.Refusal.{Refusal}
 use Rattle.refusals.specs.declared.Verdict.{Verdict}
 use Rattle.refusals.specs.declared.Verdict.the-variants.{Fine, Refused}
 use Rattle.refusals.specs.Order.{refuseUnless, _then_, inTurn}
+use Rattle.refusals.proofs.Order.{refused-not-fine}
 
 -- where the verdict refuses, P holds of the refusal
 pub data Only (P : Refusal → Type 0) : Verdict → Type 0 where
   fine : Only P Fine
   refused : {why : Refusal} → P why → Only P (Refused why)
+
+-- so it does where one is said
+pub only-said : {P : Refusal → Type 0} {v : Verdict} {why : Refusal} → Only P v → v ≡ Refused why → P why
+only-said fine e = refused-not-fine (sym e)
+only-said {P = P} {why = said} (refused {why} p) e = let same : why ≡ said = cc in subst P same p
 
 -- what refuses for one kind refuses for every wider kind
 pub only-wider :

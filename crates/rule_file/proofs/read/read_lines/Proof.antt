@@ -1,10 +1,10 @@
--- `rule_file::read::read_pass` meets its contract: the first line decides, and then the rest. Assumes nothing.
+-- `rule_file::read::read_lines` meets its contract: the first line decides, and then the rest. Assumes nothing.
 use mathlib.Core.Path.{_≡_, subst}
 use borrow.Author.Needs.{needs}
 use Rattle.rule_file.specs.declared.read.First.{First}
 use Rattle.rule_file.specs.ReadSteps.{FirstLineRead}
-use Rattle.rule_file.proofs.read.read_pass.Statement.{statement}
-use Rattle.rule_file.proofs.read.read_pass.Tie as tie
+use Rattle.rule_file.proofs.read.read_lines.Statement.{statement}
+use Rattle.rule_file.proofs.read.read_lines.Tie as tie
 
 -- what the first line says
 first :
@@ -37,8 +37,8 @@ returns-2 c =
     let m = c .before .before .before .before .before in
     rw (first (m .before .before) (m .n .given .1) .moved) (c .before .before .rule-lines .ensures)
 
-pub read-pass-spec : {M : Type 1} → statement M
-read-pass-spec =
+pub read-lines-spec : {M : Type 1} → statement M
+read-lines-spec =
     tie.close
     (tie.spec
     first-line-requires

@@ -1,0 +1,103 @@
+-- `rules::twins::twins_verdict` meets its contract. The invariant: the rules before this one are chained, and none of
+-- them has a twin before it. Assumes nothing.
+use Prim.Native.Nat.{_-_, _≤_}
+use native.Mathlib.Omega.{arith}
+use mathlib.Core.Path.{_≡_, refl}
+use borrow.Author.Needs.{needs}
+use Rattle.rules.specs.Words.{ruleCount}
+use Rattle.rules.proofs.Chains.{slot-below}
+use Rattle.rules.proofs.Chaining.{AllApart, apart-first, apart-place, apart-step, apart-stop, apart-last}
+use Rattle.rules.proofs.twins.twins_verdict.Statement.{statement}
+use Rattle.rules.proofs.twins.twins_verdict.Tie as tie
+
+abbrev Inv-loop : tie.InvT-loop
+Inv-loop rules latest₀ before₀ count rule₀ latest before rule =
+    (count ≡ ruleCount rules) × (rule ≤ ruleCount rules) × AllApart rules latest before rule
+
+abbrev μ-loop : tie.MeasureT-loop
+μ-loop rules latest₀ before₀ count rule₀ latest before rule = ruleCount rules - rule
+
+loop-holds : tie.Need-loop-holds Inv-loop μ-loop
+loop-holds c = (refl, omega arith, apart-first _)
+
+slot-of-requires : tie.Need-slot-of-requires Inv-loop μ-loop
+slot-of-requires c κs = omega arith
+
+mul-place : tie.Need-mul-place Inv-loop μ-loop
+mul-place c = omega (arith, slot-below _ _ (c .slot-of .ensures))
+
+array-read-place : tie.Need-array-read-place Inv-loop μ-loop
+array-read-place c = slot-below _ _ (c .slot-of .ensures)
+
+slice-aggregate-twin-in : tie.Need-slice-aggregate-twin-in Inv-loop μ-loop
+slice-aggregate-twin-in c = search needs
+
+twin-in-requires : tie.Need-twin-in-requires Inv-loop μ-loop
+twin-in-requires c κs =
+    let l = c .before .before .before in
+    (omega arith, apart-place _ (l .loop .inv .2) (c .before .slot-of .ensures), l .loop .inv .2 .chained)
+
+returns : tie.Need-returns Inv-loop μ-loop
+returns c =
+    let l = c .before .before .before .before .before in
+    apart-stop _ (l .loop .inv .2) (c .before .twin-in .ensures) (c .if1 .taken) (omega arith)
+
+mul-before : tie.Need-mul-before Inv-loop μ-loop
+mul-before c = omega arith
+
+array-write-before : tie.Need-array-write-before Inv-loop μ-loop
+array-write-before c = omega (arith, c .before .before .before .before .before .before .before .pre)
+
+cast-latest : tie.Need-cast-latest Inv-loop μ-loop
+cast-latest c = omega (arith, c .before .before .before .before .before .before .before .pre)
+
+add-latest : tie.Need-add-latest Inv-loop μ-loop
+add-latest c = omega (arith, c .before .before .before .before .before .before .before .pre)
+
+mul-latest : tie.Need-mul-latest Inv-loop μ-loop
+mul-latest c = omega (arith, slot-below _ _ (c .before .before .before .slot-of .ensures))
+
+array-write-latest : tie.Need-array-write-latest Inv-loop μ-loop
+array-write-latest c = slot-below _ _ (c .before .before .before .slot-of .ensures)
+
+add-rule : tie.Need-add-rule Inv-loop μ-loop
+add-rule c = omega arith
+
+loop-less : tie.Need-loop-less Inv-loop μ-loop
+loop-less c = omega arith
+
+loop-again : tie.Need-loop-again Inv-loop μ-loop
+loop-again c =
+    let l = c .before .before .before .before .before in (
+      refl,
+      omega arith,
+      apart-step _ (l .loop .inv .2) (c .before .before .before .slot-of .ensures) (c .before .twin-in .ensures)
+          (c .if1 .left) (omega arith) (l .before .before .pre),
+    )
+
+returns-2 : tie.Need-returns-2 Inv-loop μ-loop
+returns-2 c = apart-last _ (c .before .loop .inv .2) (omega arith)
+
+pub twins-verdict-spec : {M : Type 1} → statement M
+twins-verdict-spec =
+    tie.close
+    (tie.spec
+    Inv-loop
+    μ-loop
+    loop-holds
+    slot-of-requires
+    mul-place
+    array-read-place
+    slice-aggregate-twin-in
+    twin-in-requires
+    returns
+    mul-before
+    array-write-before
+    cast-latest
+    add-latest
+    mul-latest
+    array-write-latest
+    add-rule
+    loop-less
+    loop-again
+    returns-2)

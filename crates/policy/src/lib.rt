@@ -3,7 +3,8 @@
 // that a list is compiled into.
 //   list::take_list           the list of the rule file: 12, 9, 10, 11, 4
 //   tree::take_tree           the tree of the tree file: 12, 9, 10, 4
-//   serving::who_serves       the tree, or the list and why the tree is refused: as the file was, then 1, 2, 11, 5, 6, 7, 8
+//   serving::who_serves       the tree, or the list and why the tree is refused: as the file was, then 1, 2, 11, 5, 6,
+//                             7, 8
 //   line::verdict_line        the line of a refused list or tree: 4
 //   compiled::compile_text    the text of the tree of a list: 1, 2, 11, 4
 //   file::File                what a file gave

@@ -57,8 +57,8 @@ module _ (s : List ℕ) {before : List ℕ} where
 
 -- the words that lines were stored as, in words of their own with room for all
 pub stored-front :
-    {a : Reading (List ℕ)} {old new : List ℕ} {n : ℕ} (p : RulesStored a old new n) → length old ≡ mostRules * ruleWords →
-    take (n * ruleWords) new ≡ p .words
+    {a : Reading (List ℕ)} {old new : List ℕ} {n : ℕ} (p : RulesStored a old new n) →
+    length old ≡ mostRules * ruleWords → take (n * ruleWords) new ≡ p .words
 stored-front {a} {old} {new} {n} p room =
     let fits : length (p .words) ≤ length old = omega (arith, p .size, p .few) in
     rw (p .rules-are ∙ sets-written (p .words) old fits) (written-front (p .words) old (n * ruleWords) (p .size))

@@ -40,7 +40,8 @@ unfolding rulesIn
 lines-of-read s ws e = go (linesIn s) refl e
   where
     on :
-        (us : List ℕ) (v : Verdict) → twinsVerdict us ≡ v → onTwins us v ≡ good ws → (us ≡ ws) × (twinsVerdict us ≡ Fine)
+        (us : List ℕ) (v : Verdict) → twinsVerdict us ≡ v → onTwins us v ≡ good ws →
+        (us ≡ ws) × (twinsVerdict us ≡ Fine)
     on us Fine t e = (cc, t)
     on us (Refused why) t e = refused-good e
 
@@ -66,7 +67,9 @@ read-eleven-iff s r q = (
   λ w. twins-of-lines s (w .0) (w .1) (twins-refused-iff (w .0) r q .1 (w .2)),
 )
   where
-    on : (ws : List ℕ) (v : Verdict) → twinsVerdict ws ≡ v → onTwins ws v ≡ refused (RuleHasTwin r q) → FirstTwins ws r q
+    on :
+        (ws : List ℕ) (v : Verdict) → twinsVerdict ws ≡ v → onTwins ws v ≡ refused (RuleHasTwin r q) →
+        FirstTwins ws r q
     on ws Fine t e = refused-good (sym e)
     on ws (Refused why) t e =
         let same : why ≡ RuleHasTwin r q = cc in twins-refused-iff ws r q .0 (t ∙ ap Refused same)

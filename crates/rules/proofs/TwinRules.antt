@@ -120,7 +120,8 @@ module _ (rs : List ℕ) where
             from = omega arith;
             below = omega (arith, w .twins .rule);
             refuses =
-                twin-refused q r (twin-found rs q r (w .twins .earlier) (w .twins .alike) (apart w)) (w .twins .earlier);
+                let first = twin-found rs q r (w .twins .earlier) (w .twins .alike) (apart w) in
+                twin-refused q r first (w .twins .earlier);
             fine-before = λ k l u.
                 twin-fine-iff k .1
                 (λ p m.

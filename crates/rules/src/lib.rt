@@ -1,5 +1,5 @@
-// A list of rules: its words, good rules, twins, matching, the line-by-line search, the ends of fields, and what entries
-// lack. The written list is the policy.
+// A list of rules: its words, good rules, twins, matching, the line-by-line search, the ends of fields, and what
+// entries lack. The written list is the policy.
 //   check::rule_check     whether the list is good: 1, 2, 11; gives the number of rules
 //   line::line_all        every number that matches a header, rising, into lent words: 1, 2, 11, 3, 4
 //   line::line_first      the lowest number that matches a header: 1, 2, 11, 3

@@ -30,8 +30,8 @@ const FACTORS: [usize; RULE_WORDS] = [
     253646873,
 ];
 
-// What a mix is divided by: its lowest 24 bits do not count.
-const PASSED: usize = 16_777_216;
+// What a mix is divided by: its lowest 24 bits are dropped.
+const DROPPED: usize = 16_777_216;
 
 // 11 at the lowest rule that has the words of an earlier one. `latest` has for each slot the place of its latest rule,
 // and `before` for each rule the place of the one before it in its slot: its number and 1 more, or 0 for none.
@@ -59,8 +59,8 @@ pub(crate) fn twins_verdict(rules: &[u32]) -> Verdict
 
 // The rule with the words of rule `r` in the chain that begins at a place; `r` where there is none.
 fn twin_in(rules: &[u32], before: &[u32], place: u32, r: usize) -> usize
-    requires { ⌜ (r < ruleCount (now rules)) × (place ≡ latestIn (now rules) r (slotOf (now rules) r)) ×
-        Chained (now rules) (now before) r ⌝ }
+    requires { ⌜ (r < ruleCount (now rules)) × Chained (now rules) (slotOf (now rules)) (now before) r ×
+        (place ≡ latestIn (slotOf (now rules)) r (slotOf (now rules) r)) ⌝ }
     ensures { λ q. ⌜ q ≡ earlierTwin (now (rules .entry)) r ⌝ }
 {
     let mut next = wide(place);
@@ -100,5 +100,5 @@ fn slot_of(rules: &[u32], r: usize) -> usize
         mix += wide(word_of(rules, r, k)) * FACTORS[k];
         k += 1;
     }
-    mix / PASSED % SLOTS
+    mix / DROPPED % SLOTS
 }

@@ -16,7 +16,9 @@ module _ {S R : Type 0} (step : S → List ℕ → Option S) (finish : S → Opt
   end-low (some r) k [] e = refused-good (sym e)
   end-low (some r) k (b ∷ t) e = let same : LineWrong (k + 1) ≡ why = cc in rw (← same) (omega arith)
 
-  run-low : (ls : List (List ℕ)) (st : S) (k : ℕ) (t : List ℕ) → run step finish st k ls t ≡ refused why → numberOf why ≤ 10
+  run-low :
+      (ls : List (List ℕ)) (st : S) (k : ℕ) (t : List ℕ) → run step finish st k ls t ≡ refused why →
+      numberOf why ≤ 10
   unfolding run
   run-low [] st k t e = end-low (finish st) k t e
   run-low (l ∷ ls) st k t e = go (step st l) (λ next. run-low ls next (k + 1) t) e

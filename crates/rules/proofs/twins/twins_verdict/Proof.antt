@@ -5,20 +5,21 @@ use native.Mathlib.Omega.{arith}
 use mathlib.Core.Path.{_≡_, refl}
 use borrow.Author.Needs.{needs}
 use Rattle.rules.specs.Words.{ruleCount}
-use Rattle.rules.proofs.Chains.{slot-below}
+use Rattle.rules.specs.Chains.{slotOf}
+use Rattle.rules.proofs.Slots.{slot-below}
 use Rattle.rules.proofs.Chaining.{AllApart, apart-first, apart-place, apart-step, apart-stop, apart-last}
 use Rattle.rules.proofs.twins.twins_verdict.Statement.{statement}
 use Rattle.rules.proofs.twins.twins_verdict.Tie as tie
 
 abbrev Inv-loop : tie.InvT-loop
 Inv-loop rules latest₀ before₀ count rule₀ latest before rule =
-    (count ≡ ruleCount rules) × (rule ≤ ruleCount rules) × AllApart rules latest before rule
+    (count ≡ ruleCount rules) × (rule ≤ ruleCount rules) × AllApart rules (slotOf rules) latest before rule
 
 abbrev μ-loop : tie.MeasureT-loop
 μ-loop rules latest₀ before₀ count rule₀ latest before rule = ruleCount rules - rule
 
 loop-holds : tie.Need-loop-holds Inv-loop μ-loop
-loop-holds c = (refl, omega arith, apart-first _)
+loop-holds c = (refl, omega arith, apart-first _ _)
 
 slot-of-requires : tie.Need-slot-of-requires Inv-loop μ-loop
 slot-of-requires c κs = omega arith
@@ -35,12 +36,13 @@ slice-aggregate-twin-in c = search needs
 twin-in-requires : tie.Need-twin-in-requires Inv-loop μ-loop
 twin-in-requires c κs =
     let l = c .before .before .before in
-    (omega arith, apart-place _ (l .loop .inv .2) (c .before .slot-of .ensures), l .loop .inv .2 .chained)
+    let slot = c .before .slot-of .ensures in
+    (omega arith, l .loop .inv .2 .chained, apart-place _ _ (l .loop .inv .2) slot (slot-below _ _ slot))
 
 returns : tie.Need-returns Inv-loop μ-loop
 returns c =
     let l = c .before .before .before .before .before in
-    apart-stop _ (l .loop .inv .2) (c .before .twin-in .ensures) (c .if1 .taken) (omega arith)
+    apart-stop _ _ (l .loop .inv .2) (c .before .twin-in .ensures) (c .if1 .taken) (omega arith)
 
 mul-before : tie.Need-mul-before Inv-loop μ-loop
 mul-before c = omega arith
@@ -68,15 +70,16 @@ loop-less c = omega arith
 
 loop-again : tie.Need-loop-again Inv-loop μ-loop
 loop-again c =
-    let l = c .before .before .before .before .before in (
+    let l = c .before .before .before .before .before in
+    let slot = c .before .before .before .slot-of .ensures in (
       refl,
       omega arith,
-      apart-step _ (l .loop .inv .2) (c .before .before .before .slot-of .ensures) (c .before .twin-in .ensures)
-          (c .if1 .left) (omega arith) (l .before .before .pre),
+      apart-step _ _ (l .loop .inv .2) slot (slot-below _ _ slot) (c .before .twin-in .ensures) (c .if1 .left)
+          (omega arith) (l .before .before .pre),
     )
 
 returns-2 : tie.Need-returns-2 Inv-loop μ-loop
-returns-2 c = apart-last _ (c .before .loop .inv .2) (omega arith)
+returns-2 c = apart-last _ _ (c .before .loop .inv .2) (omega arith)
 
 pub twins-verdict-spec : {M : Type 1} → statement M
 twins-verdict-spec =

@@ -92,7 +92,7 @@ impl Library {
     }
 }
 
-/// Loads the two builds, and times them on lists of 512 rules.
+/// Loads the two builds, and times them on lists of 512 rules, and on the first three of them.
 pub fn time(files: [&str; 2], draw: &mut impl FnMut() -> u32) {
     let libraries = files.map(Library::load);
     let list = |rule: &mut dyn FnMut(u32) -> [u32; RULE_WORDS]| -> Vec<u32> {
@@ -103,11 +103,15 @@ pub fn time(files: [&str; 2], draw: &mut impl FnMut() -> u32) {
     time_list("single hosts", &hosts, &libraries);
     let zeros = list(&mut |number| [0, 0, 0, 0, 0, 65_535, 0, 65_535, number % 128, 255 - number / 128]);
     time_list("address zero, length 0", &zeros, &libraries);
+    // By these steps, all rules come into one or two slots of `crates/rules/src/twins.rt`.
+    let crowded = list(&mut |number| [63_580 * number, 32, 0, 0, 0, 65_535, 0, 65_535, 0, 255]);
+    time_list("hosts that share a slot", &crowded, &libraries);
+    time_list("three single hosts", &hosts[..3 * RULE_WORDS], &libraries);
 }
 
 /// Compares what the two do with a good list, and then times them.
 fn time_list(name: &str, rules: &[u32], libraries: &[Library; 2]) {
-    let counted = [0, 0, 0, MOST_RULES as u64, 0, 0, 0, 0];
+    let counted = [0, 0, 0, (rules.len() / RULE_WORDS) as u64, 0, 0, 0, 0];
     let text = libraries[0].write(rules);
     for library in libraries {
         let mut words = vec![0; rules.len()];

@@ -3,11 +3,11 @@ use Prim.Native.Nat.{ℕ, _+_, _≤_}
 use native.Mathlib.Omega.{arith}
 use mathlib.Core.Option.{Option, none, some}
 use mathlib.Core.List.{List, [], _∷_}
-use mathlib.Core.Path.{_≡_, refl, sym}
+use mathlib.Core.Path.{_≡_, sym}
 use Rattle.refusals.specs.declared.Refusal.{Refusal}
 use Rattle.refusals.specs.declared.Refusal.the-variants.{LineWrong, TextStops}
 use Rattle.refusals.specs.Table.{numberOf}
-use Rattle.text.specs.Text.{Text, whole, Reading, good, refused, atEnd, onStep, run, readAll}
+use Rattle.text.specs.Text.{Text, whole, refused, atEnd, onStep, run, readAll}
 use Rattle.text.proofs.Runs.{refused-good}
 
 module _ {S R : Type 0} (step : S → List ℕ → Option S) (finish : S → Option R) {why : Refusal} where

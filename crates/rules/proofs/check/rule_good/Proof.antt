@@ -1,5 +1,4 @@
 -- `rules::check::rule_good` meets its contract: a rule that is not wholly lent is not good. Assumes nothing.
-use native.Mathlib.Omega.{arith}
 use mathlib.Core.Path.{_∙_}
 use borrow.Author.Tests.{ltb-true}
 use borrow.Author.Needs.{needs}

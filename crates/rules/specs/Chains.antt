@@ -5,7 +5,7 @@
 --   dropped                    what a mix is divided by, so that its lowest 24 bits are dropped
 --   mixOf w j                  the sum of the j words w 0, w 1, .. each times its factor
 --   slotOf rs r                the slot of rule r
---   latestIn slot r s          the place of the latest rule before r whose slot is s, each rule q having the slot slot q
+--   latestIn slot r s          the place of the latest rule before r whose slot is s; the slot of rule q is slot q
 --   Chained rs slot before r   the rules before r are chained by the words `before`, and no two of them are twins
 --   Latest slot latest r       the words `latest` have the place where the chain of each slot begins
 use Prim.Native.Nat.{ℕ, zero, suc, _+_, _*_, _/_, _%_, _≤_, _<_}

@@ -36,9 +36,13 @@
  * At a cut, a header whose field is at most the value goes on to the next node, and any other to the right child. At a
  * leaf, the header is compared with the rules that the entries name.
  *
+ * A PART is what stands of a tree whose build was stopped: its first nodes and their entries, as a tree has them, but
+ * with 0 for each right child that is not begun. No search takes it for a tree: go on with it by wick_build_on.
+ *
  * UNCHECKED TREES. The two tree searches answer by the tree as it is. By a tree that is wrong for the rules they may
  * give a WRONG ANSWER WITHOUT A REFUSAL. Search only a tree that wick_tree_check has accepted or wick_build has built,
- * with the same rules, nodes and pool, unchanged since. A tree that wick_tree_read has read is not checked by that.
+ * with the same rules, nodes and pool, unchanged since. A tree that wick_tree_read has read is not checked by that, and
+ * neither is a part that wick_part_read has read.
  */
 #ifndef WICKORCHARD_H
 #define WICKORCHARD_H
@@ -73,7 +77,8 @@ typedef struct wick_answer {
  * them. */
 enum {
     WICK_COMPLETED = 0,
-    /* The rule words are not a multiple of ten, or over 5,120; or a tree to write is for more than 512 rules. */
+    /* The rule words are not a multiple of ten, or over 5,120; or a tree or a part to write is for more than 512
+     * rules. */
     WICK_RULE_WORDS_WRONG = 1,
     /* A rule is not good: place is the lowest such rule. */
     WICK_RULE_NOT_GOOD = 2,
@@ -83,7 +88,7 @@ enum {
     WICK_OUTPUT_SHORT = 4,
     /* There are no node words, they are not a multiple of three, or over 6,141; or the pool is over 4,096 words. */
     WICK_TREE_WORDS_WRONG = 5,
-    /* A node is wrong, missing or left over: place is its number. */
+    /* A node is wrong, missing or left over: place is its number. Or a part is for another number of rules: place 0. */
     WICK_NODE_WRONG = 6,
     /* A leaf's start, count or entries are wrong: place is its node. Or the counts of all leaves do not add up to the
      * pool's length: place is the number of nodes. */
@@ -177,9 +182,29 @@ void wick_tree_check(const uint32_t *rules, uint64_t rules_len, const uint32_t *
  * with it, and extra is 1. So with just as much room a build may stop at a later node. Writes three words for each node
  * to the front of `nodes` and the leaf entries to the front of `pool`; the rest of both is as found. More than
  * WICK_MOST_NODE_WORDS and WICK_MOST_POOL_WORDS words are of no use. What it has built always passes wick_tree_check.
- * It uses up to 250,000 bytes of stack. a: the number of nodes, and b: of pool words. */
+ * It uses up to 260,000 bytes of stack. a: the number of nodes, and b: of pool words. */
 void wick_build(const uint32_t *rules, uint64_t rules_len, uint32_t *nodes, uint64_t nodes_len, uint32_t *pool,
                 uint64_t pool_len, wick_answer *answer);
+
+/* As wick_build, but stops after `most` nodes where the tree has more; 0 counts as 1. Refuses with 1, 2, 11, then 4 at
+ * the first of these nodes that does not fit. What it has written is then a part: keep it, as words or by
+ * wick_part_write, and go on by wick_build_on. a: the number of nodes, b: of pool words, and c: 1 where the tree is
+ * whole, 0 where it is stopped. Only a tree that is whole may be searched. It uses as much stack as wick_build, and so
+ * does wick_build_on. */
+void wick_build_some(const uint32_t *rules, uint64_t rules_len, uint64_t most, uint32_t *nodes, uint64_t nodes_len,
+                     uint32_t *pool, uint64_t pool_len, wick_answer *answer);
+
+/* Goes on with a part, by `most` nodes; 0 counts as 1. `rule_count` is the number of rules that the part was built for,
+ * as wick_part_read gives it. Refuses with 1, 2, 11 for the list, 5 for the part's words, 6 with place 0 where
+ * `rule_count` is not the list's, then 6 or 7 at the first fault of the part, 8 where one of its leaves lacks a rule,
+ * then 4 at the first node, from node 0 on, that does not fit. Writes all nodes and entries, those of the part
+ * included, to the front of `nodes` and of `pool`; the rest of both is as found. However often a build stops, it ends
+ * in the words or in the refusal of wick_build, with the same list and the same room each time. A part made by others
+ * is taken where it is well formed as far as it goes and none of its leaves lacks a rule; what is whole always passes
+ * wick_tree_check. a, b and c: as wick_build_some. */
+void wick_build_on(const uint32_t *rules, uint64_t rules_len, uint64_t rule_count, const uint32_t *part_nodes,
+                   uint64_t part_nodes_len, const uint32_t *part_pool, uint64_t part_pool_len, uint64_t most,
+                   uint32_t *nodes, uint64_t nodes_len, uint32_t *pool, uint64_t pool_len, wick_answer *answer);
 
 /* Writes the list as a rules file. Refuses with 1, 2, 11, 4. Writes the file's bytes to the front of `text`; the rest
  * of `text` is as found. WICK_MOST_FILE_BYTES bytes are always enough. a: how many bytes it wrote. */
@@ -203,6 +228,16 @@ void wick_tree_write(uint64_t rule_count, const uint32_t *nodes, uint64_t nodes_
  * must be checked before it is searched: see UNCHECKED TREES. a: the number of rules that the tree is for, b: of nodes,
  * and c: of pool words. */
 void wick_tree_read(const uint8_t *text, uint64_t text_len, uint32_t *nodes, uint64_t nodes_len, uint32_t *pool,
+                    uint64_t pool_len, wick_answer *answer);
+
+/* Writes a part, which is for a list of `rule_count` rules, as a part file: as wick_tree_write does, but the file
+ * begins with `part`. a: how many bytes it wrote. */
+void wick_part_write(uint64_t rule_count, const uint32_t *nodes, uint64_t nodes_len, const uint32_t *pool,
+                     uint64_t pool_len, uint8_t *text, uint64_t text_len, wick_answer *answer);
+
+/* Reads a part file, as wick_tree_read reads a tree file. Each of the two takes its own file only: the other is 9,
+ * line 1. a: the number of rules that the part is for, b: of nodes, and c: of pool words. */
+void wick_part_read(const uint8_t *text, uint64_t text_len, uint32_t *nodes, uint64_t nodes_len, uint32_t *pool,
                     uint64_t pool_len, wick_answer *answer);
 
 #ifdef __cplusplus

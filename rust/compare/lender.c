@@ -32,6 +32,7 @@ enum { SHARED = 0x01, PRIVATE = 0x02, FIXED = 0x10, NO_FILE = 0x20 }; // MAP_..,
 // The calls' numbers, as `abi.rs` has them.
 enum { RULE_CHECK = 1, LINE_ALL = 2, LINE_FIRST = 3, TREE_ALL = 4, TREE_FIRST = 5, TREE_CHECK = 6 };
 enum { RULES_WRITE = 7, RULES_READ = 8, TREE_WRITE = 9, TREE_READ = 10, SCAN_ALL = 11, SCAN_FIRST = 12, BUILD = 13 };
+enum { BUILD_SOME = 14, BUILD_ON = 15, PART_WRITE = 16, PART_READ = 17 };
 
 // The bytes on either side of the arena that a call may not touch: one that does ends the program.
 enum { MARGIN = 1 << 20 };
@@ -45,8 +46,8 @@ struct slice {
 struct request {
     u64 call;
     struct slice slices[6]; // in the order of the call's parameters
-    u64 number;
-    u64 answer; // where the answer begins, in bytes from the arena's start
+    u64 numbers[2];         // likewise
+    u64 answer;             // where the answer begins, in bytes from the arena's start
 };
 
 // Slice `i` as a call takes it, where its elements are 32-bit words, and where they are bytes.
@@ -82,7 +83,7 @@ static u64 make_call(char *arena, const struct request *asked) {
         wick_rules_read(BYTES(0), WORDS(1), answer);
         return RULES_READ;
     case TREE_WRITE:
-        wick_tree_write(asked->number, WORDS(0), WORDS(1), BYTES(2), answer);
+        wick_tree_write(asked->numbers[0], WORDS(0), WORDS(1), BYTES(2), answer);
         return TREE_WRITE;
     case TREE_READ:
         wick_tree_read(BYTES(0), WORDS(1), WORDS(2), answer);
@@ -96,6 +97,18 @@ static u64 make_call(char *arena, const struct request *asked) {
     case BUILD:
         wick_build(WORDS(0), WORDS(1), WORDS(2), answer);
         return BUILD;
+    case BUILD_SOME:
+        wick_build_some(WORDS(0), asked->numbers[0], WORDS(1), WORDS(2), answer);
+        return BUILD_SOME;
+    case BUILD_ON:
+        wick_build_on(WORDS(0), asked->numbers[0], WORDS(1), WORDS(2), asked->numbers[1], WORDS(3), WORDS(4), answer);
+        return BUILD_ON;
+    case PART_WRITE:
+        wick_part_write(asked->numbers[0], WORDS(0), WORDS(1), BYTES(2), answer);
+        return PART_WRITE;
+    case PART_READ:
+        wick_part_read(BYTES(0), WORDS(1), WORDS(2), answer);
+        return PART_READ;
     default:
         return 0;
     }

@@ -1,32 +1,32 @@
--- A cut that is seen: its parts can be grown, and what they come to is joined.
-use Prim.Native.Nat.{ℕ, _+_, _-_, _*_, _≤_, _<_}
+-- A cut that is seen: its parts can be grown.
+use Prim.Native.Nat.{ℕ, _+_, _-_, _≤_, _<_}
 use native.Mathlib.Omega.{arith}
-use mathlib.Core.Bool.{true}
-use mathlib.Core.Path.{_≡_, ap}
-use mathlib.Core.List.{List, [], _∷_}
+use mathlib.Core.Bool.{Bool, true}
+use mathlib.Core.Path.{_≡_, ap, _∙_}
+use mathlib.Core.List.{List}
 use lib.ListN.{take}
-use lib.Seq.{sets}
+use borrow.Author.Tests.{lt-ltb, le-ltb}
 use Rattle.facts.specs.Lists.{allUnder}
+use Rattle.facts.proofs.Cases.{WithinOrOver, atMost, over, within-or-over}
 use Rattle.facts.proofs.Under.{all-under-iff-has}
-use Rattle.refusals.specs.declared.Refusal.{Refusal}
 use Rattle.fields.specs.Words.{fieldCount}
 use Rattle.fields.specs.Cuts.{leftPart, rightPart}
 use Rattle.fields.proofs.Parts.{pairs-left-part, pairs-right-part}
-use Rattle.trees.specs.Words.{nodeWords, mostNodes, mostPool}
+use Rattle.trees.specs.Words.{mostNodes, mostPool}
 use Rattle.built.specs.Boxes.{meeting}
-use Rattle.built.specs.Trees.{Tree}
+use Rattle.built.specs.Stops.{childBefore}
 use Rattle.built.proofs.Meeting.{meeting-iff}
-use Rattle.built.proofs.Fitting.{fits-fine-iff}
+use Rattle.built.proofs.Fitting.{fine-nodes, fine-entries}
 use Rattle.builder.specs.declared.grow.Grown.{Grown}
 use Rattle.builder.specs.declared.grow.Grown.the-variants as grown
 use Rattle.builder.specs.declared.grow.Spot.{Spot}
 use Rattle.builder.specs.declared.grow.Room.{Room}
 use Rattle.builder.specs.BoxWords.{boxCount, boxesIn}
-use Rattle.builder.specs.Growing.{treeAt, leftSpot, rightSpot, GrownPart, Growable}
+use Rattle.builder.specs.Growing.{grownAt, leftSpot, rightSpot, GrownPart, Growable}
 use Rattle.builder.proofs.BoxWords.{box-count}
 use Rattle.builder.proofs.Narrower.{meeting-left, meeting-right}
-use Rattle.builder.proofs.PartAnswers.{tree-cut, part-says}
-use Rattle.builder.proofs.PartsGrown.{cut-refused, cut-grown}
+use Rattle.builder.proofs.ChoiceTrees.{tree-cut}
+use Rattle.builder.proofs.PartAnswers.{part-says}
 use Rattle.builder.proofs.Looking.{cut-field}
 use Rattle.builder.proofs.Seeing.{SeenCut}
 
@@ -40,6 +40,15 @@ pub right-less :
     at .cuts < spot .cuts
 right-less spot {at} next entries e h =
     let q : at .cuts ≡ spot .cuts - 1 = ap (λ (s : Spot). s .cuts) e in omega arith
+
+-- the right child of a cut is no more than the node after its left part
+pub child-few : (e next : ℕ) {child m : ℕ} → child ≡ childBefore e next → next ≤ m → child ≤ m
+unfolding childBefore
+child-few e next {child} {m} q h = go (within-or-over e next)
+  where
+    go : WithinOrOver e next → child ≤ m
+    go (atMost l) = let z : child ≡ 0 = q ∙ rw (le-ltb next e l) in omega arith
+    go (over l) = let z : child ≡ next = q ∙ rw (lt-ltb next e l) in omega arith
 
 module _ {ws above standing kept : List ℕ} {b : List (List ℕ)} {spot : Spot} {room : Room} {met : List ℕ}
     (g : Growable ws above standing kept b spot room) where
@@ -62,9 +71,6 @@ module _ {ws above standing kept : List ℕ} {b : List (List ℕ)} {spot : Spot}
         (all-under-iff-has (boxCount ws) (meeting fieldCount (boxesIn ws) b) .1
         (λ y h. omega (arith, meeting-iff fieldCount (boxesIn ws) b y .0 h .0, box-count ws)))
 
-    left-tree : Tree
-    left-tree = treeAt ws standing kept (leftPart b f v) (leftSpot spot)
-
     -- its left part can be grown
     pub left-growable :
         {d : List (List ℕ)} {at : Spot} → d ≡ leftPart b f v → at ≡ leftSpot spot →
@@ -84,30 +90,24 @@ module _ {ws above standing kept : List ℕ} {b : List (List ℕ)} {spot : Spot}
           pool = g .pool;
         })
 
-    -- a cut whose left part is refused is refused so
-    pub left-part-refused :
-        {d : List (List ℕ)} {at : Spot} {nodes pool nodes₁ pool₁ nodes′ pool′ : List ℕ} {r : Grown} {why : Refusal} →
-        d ≡ leftPart b f v → at ≡ leftSpot spot →
-        GrownPart (treeAt ws standing kept d at) at room nodes pool r nodes₁ pool₁ → r ≡ grown.Refused why →
-        GrownPart (treeAt ws standing kept b spot) spot room nodes pool (grown.Refused why) nodes′ pool′
-    left-part-refused p q w e =
-        rw (tree-cut fieldCount (boxesIn ws) standing kept b (spot .node) (spot .cuts) (s .chosen) .1)
-        (cut-refused f v _ _ spot room (s .there) (rw (p, q) at w) e)
-
     module _ {d : List (List ℕ)} {at : Spot} {nodes pool nodes₁ pool₁ : List ℕ} {r : Grown} {next entries : ℕ}
-        (p : d ≡ leftPart b f v) (q : at ≡ leftSpot spot)
-        (w : GrownPart (treeAt ws standing kept d at) at room nodes pool r nodes₁ pool₁)
-        (e : r ≡ grown.Part next entries) where
-      left-grown : GrownPart left-tree (leftSpot spot) room nodes pool r nodes₁ pool₁
-      unfolding left-tree
+        {o : Bool} (p : d ≡ leftPart b f v) (q : at ≡ leftSpot spot)
+        (w : GrownPart (grownAt ws standing kept d at room) at room nodes pool r nodes₁ pool₁)
+        (e : r ≡ grown.Part next entries o) where
+      left-grown :
+          GrownPart (grownAt ws standing kept (leftPart b f v) (leftSpot spot) room) (leftSpot spot) room nodes pool r
+          nodes₁ pool₁
       left-grown = rw (p, q) at w
 
       -- after its left part there are no more nodes than a tree has, and no more entries than a pool has
       pub after-left : (next ≤ mostNodes) × (entries ≤ mostPool)
       after-left =
+          let x = grownAt ws standing kept (leftPart b f v) (leftSpot spot) room in
           let t = part-says left-grown e in
-          let u = fits-fine-iff left-tree (spot .node + 1) (spot .entries) (room .nodes) (room .pool) .0 (t .0) in
-          (omega (arith, t .1, u .0, g .nodes), omega (arith, t .2, u .1, g .pool))
+          let n = fine-nodes x (spot .node + 1) (spot .entries) (room .nodes) (room .pool) (s .there) (t .0) in
+          let u = fine-entries x (spot .node + 1) (spot .entries) (room .nodes) (room .pool) mostPool
+          (g .entries) (g .pool) (t .0) in
+          (omega (arith, t .1, n, g .nodes), omega (arith, t .2, u))
 
       -- its right part can be grown
       pub right-growable :
@@ -127,16 +127,3 @@ module _ {ws above standing kept : List ℕ} {b : List (List ℕ)} {spot : Spot}
             nodes = g .nodes;
             pool = g .pool;
           })
-
-      -- its left part, its own words and its right part make the cut
-      pub parts-joined :
-          {d′ : List (List ℕ)} {at′ : Spot} {nodes₂ nodes′ pool′ : List ℕ} {r′ : Grown} →
-          nodes₂ ≡ sets nodes₁ (spot .node * nodeWords) (f ∷ v ∷ next ∷ []) → d′ ≡ rightPart b f v →
-          at′ ≡ rightSpot spot next entries →
-          GrownPart (treeAt ws standing kept d′ at′) at′ room nodes₂ pool₁ r′ nodes′ pool′ →
-          GrownPart (treeAt ws standing kept b spot) spot room nodes pool r′ nodes′ pool′
-      unfolding left-tree
-      parts-joined stored p′ q′ right =
-          let after = part-says left-grown e .1 in
-          rw (tree-cut fieldCount (boxesIn ws) standing kept b (spot .node) (spot .cuts) (s .chosen) .1)
-          (cut-grown f v _ _ spot room (s .there) left-grown e stored (rw (← after) (rw (p′, q′) at right)))

@@ -1,22 +1,20 @@
 -- Growing a tree from the nodes that stand already, in the code's enums. Definitions only.
---   grownBy            the tree of a choice
---   joined             a cut whose right part begins after its left part
---   grownOn k n boxes standing kept b i    the tree of box b, its first node being node i, where the nodes of
---                      `standing` stand already and have their entries in `kept`. The build begins with none
---   treeAt             the tree of a part that begins at a spot
+--   treeAt             the tree of a part that begins at a spot, where the nodes of `standing` stand already and have
+--                      their entries in `kept`. The build begins with none
+--   grownAt            what is grown of it before the room's end
 --   leftSpot, rightSpot    where the parts of a cut begin
 --   grownSaid v t i s  what is said of the tree t from node i and place s on, by the verdict v
 --   fitsAt t spot room     whether the tree t fits from a spot on
 --   GrownPart          what growing a part leaves: its answer, and its words where it fits
 --   LeafFits           what a leaf asks for: its words fit, and its entries are few
 --   Growable           what growing a part asks for
---   Looked             what a part begins with: its node does not fit; a leaf and its entries; or a cut, and the
---                      numbers of the boxes that meet its box
-use Prim.Native.Nat.{ℕ, zero, suc, _+_, _-_, _*_, _≤_, _<_}
+--   Looked             what a part begins with: it is not begun; its node does not fit; a leaf and its entries; or a
+--                      cut, and the numbers of the boxes that meet its box
+use Prim.Native.Nat.{ℕ, _+_, _-_, _*_, _≤_, _<_}
 use mathlib.Core.Bool.{true}
 use mathlib.Core.Path.{_≡_}
-use mathlib.Core.List.{List, []}
-use lib.ListN.{length, take, drop}
+use mathlib.Core.List.{List}
+use lib.ListN.{length, take}
 use lib.Seq.{sets}
 use Rattle.facts.specs.Lists.{keep, allUnder}
 use Rattle.refusals.specs.declared.Refusal.{Refusal}
@@ -25,15 +23,15 @@ use Rattle.refusals.specs.declared.Verdict.{Verdict}
 use Rattle.refusals.specs.declared.Verdict.the-variants as verdict
 use Rattle.fields.specs.Words.{fieldCount}
 use Rattle.fields.specs.Boxes.{Pairs}
-use Rattle.fields.specs.Cuts.{leftPart, rightPart}
 use Rattle.rules.specs.Words.{mostRules}
 use Rattle.trees.specs.Words.{nodeWords, mostNodes, mostPool}
 use Rattle.trees.specs.Spelt.{Spelt}
 use Rattle.tree_check.specs.Whole.{mostCuts}
 use Rattle.built.specs.Boxes.{meeting}
-use Rattle.built.specs.Trees.{Tree, leaf, cut}
+use Rattle.built.specs.Trees.{Tree, leaf}
 use Rattle.built.specs.Layout.{size, pooled, laid, fits}
-use Rattle.builder.specs.declared.choice.Choice.{Choice}
+use Rattle.built.specs.GrownOn.{grownOn}
+use Rattle.built.specs.Stops.{upTo, lastOpen}
 use Rattle.builder.specs.declared.choice.Choice.the-variants as choice
 use Rattle.builder.specs.declared.grow.Grown.{Grown}
 use Rattle.builder.specs.declared.grow.Grown.the-variants as grown
@@ -44,26 +42,11 @@ use Rattle.builder.specs.declared.grow.Room.{Room}
 use Rattle.builder.specs.BoxWords.{boxCount, boxesIn, metBy}
 use Rattle.builder.specs.Choices.{choiceOf}
 
-abbrev pub grownBy : Choice → List ℕ → List ℕ → (ℕ → ℕ → Tree) → Tree
-grownBy choice.Leaf met kept divided = leaf met
-grownBy (choice.Stands start count) met kept divided = leaf (take count (drop start kept))
-grownBy (choice.Cut f v) met kept divided = divided f v
-
--- a cut whose right part begins after its left part
-abbrev pub joined : ℕ → ℕ → ℕ → Tree → (ℕ → Tree) → Tree
-joined f v i x right = cut f v x (right (i + 1 + size x))
-
-unfoldable pub grownOn : ℕ → ℕ → List (List (List ℕ)) → List ℕ → List ℕ → List (List ℕ) → ℕ → Tree
-grownOn zero n boxes standing kept b i =
-    grownBy (choiceOf zero n boxes standing b i) (meeting n boxes b) kept (λ f v. leaf [])
-grownOn (suc k) n boxes standing kept b i =
-    grownBy (choiceOf (suc k) n boxes standing b i) (meeting n boxes b) kept
-    (λ f v.
-    joined f v i (grownOn k n boxes standing kept (leftPart b f v) (i + 1))
-    (λ j. grownOn k n boxes standing kept (rightPart b f v) j))
-
 abbrev pub treeAt : List ℕ → List ℕ → List ℕ → List (List ℕ) → Spot → Tree
 treeAt ws standing kept b spot = grownOn (spot .cuts) fieldCount (boxesIn ws) standing kept b (spot .node)
+
+abbrev pub grownAt : List ℕ → List ℕ → List ℕ → List (List ℕ) → Spot → Room → Tree
+grownAt ws standing kept b spot room = upTo (room .end) (treeAt ws standing kept b spot) (spot .node)
 
 abbrev pub leftSpot : Spot → Spot
 leftSpot spot = record { node = spot .node + 1; entries = spot .entries; cuts = spot .cuts - 1 }
@@ -72,7 +55,7 @@ abbrev pub rightSpot : Spot → ℕ → ℕ → Spot
 rightSpot spot next entries = record { node = next; entries = entries; cuts = spot .cuts - 1 }
 
 abbrev pub grownSaid : Verdict → Tree → ℕ → ℕ → Grown
-grownSaid verdict.Fine t i s = grown.Part (i + size t) (s + length (pooled t))
+grownSaid verdict.Fine t i s = grown.Part (i + size t) (s + length (pooled t)) (lastOpen t)
 grownSaid (verdict.Refused why) t i s = grown.Refused why
 
 abbrev pub fitsAt : Tree → Spot → Room → Verdict
@@ -106,14 +89,15 @@ pub record Growable (ws above standing kept : List ℕ) (b : List (List ℕ)) (s
 
 pub data Looked
     (ws standing kept : List ℕ) (b : List (List ℕ)) (spot : Spot) (room : Room) (met : List ℕ) : Look → Type 0 where
+  isBud : room .end ≤ spot .node → Looked ws standing kept b spot room met look.Bud
   short :
-      {why : Refusal} → room .nodes < (spot .node + 1) * nodeWords →
+      {why : Refusal} → spot .node < room .end → room .nodes < (spot .node + 1) * nodeWords →
       why ≡ OutputShort ((spot .node + 1) * nodeWords) 0 → Looked ws standing kept b spot room met (look.Refused why)
   isLeaf :
-      {count : ℕ} → (spot .node + 1) * nodeWords ≤ room .nodes → count ≤ mostRules →
+      {count : ℕ} → spot .node < room .end → (spot .node + 1) * nodeWords ≤ room .nodes → count ≤ mostRules →
       treeAt ws standing kept b spot ≡ leaf (take count met) →
       Looked ws standing kept b spot room met (look.Leaf count)
   isCut :
-      {f v count : ℕ} → (spot .node + 1) * nodeWords ≤ room .nodes → count ≤ mostRules →
+      {f v count : ℕ} → spot .node < room .end → (spot .node + 1) * nodeWords ≤ room .nodes → count ≤ mostRules →
       choiceOf (spot .cuts) fieldCount (boxesIn ws) standing b (spot .node) ≡ choice.Cut f v →
       take count met ≡ meeting fieldCount (boxesIn ws) b → Looked ws standing kept b spot room met (look.Cut f v count)

@@ -20,17 +20,24 @@ ghost use Rattle.fields.specs.Words.{fieldCount};
 ghost use Rattle.rules.specs.Words.{mostRules};
 ghost use Rattle.trees.specs.Words.{nodeWords, mostNodes};
 ghost use Rattle.built.specs.Trees.{leaf};
-ghost use Rattle.builder.specs.Growing.{treeAt, GrownPart, Growable, LeafFits, Looked, leftSpot, rightSpot};
+ghost use Rattle.built.specs.Stops.{childBefore};
+ghost use Rattle.builder.specs.Growing.{grownAt, GrownPart, Growable, LeafFits, Looked, leftSpot, rightSpot};
 
-// What growing a part answers: a refusal; or the node after it, and how many entries there are then.
+// What growing a part answers: a refusal; or the node after it, how many entries there are then, and whether it is
+// open, its last part being not begun.
 pub enum Grown {
     Refused(Refusal),
-    Part { next: usize, entries: usize },
+    Part {
+        next: usize,
+        entries: usize,
+        open: bool,
+    },
 }
 
-// What a part begins with: a node whose words do not fit; a leaf of so many entries; or a cut, where so many boxes
-// meet.
+// What a part begins with: it is not begun; a node whose words do not fit; a leaf of so many entries; or a cut, where
+// so many boxes meet.
 pub enum Look {
+    Bud,
     Refused(Refusal),
     Leaf {
         count: usize,
@@ -49,15 +56,16 @@ pub struct Spot {
     pub cuts: usize,
 }
 
-// How many words of nodes and of entries there is room for.
+// How many words of nodes and of entries there is room for; and the first node that is not grown, whatever the room.
 pub struct Room {
     pub nodes: usize,
     pub pool: usize,
+    pub end: usize,
 }
 
-// The part of a box that begins at a spot. `above` has the numbers of the boxes that meet the box around it, `standing`
-// and `kept` the nodes that stand already and their entries. Words are stored as far as `nodes` and `pool` reach; 4
-// goes by `room`.
+// The part of a box that begins at a spot, as far as it is before the room's end. `above` has the numbers of the boxes
+// that meet the box around it, `standing` and `kept` the nodes that stand already and their entries. Words are stored
+// as far as `nodes` and `pool` reach; 4 goes by `room`.
 pub(crate) fn grow(
     boxes: &[u32],
     above: &[u32],
@@ -70,11 +78,17 @@ pub(crate) fn grow(
     pool: &mut [u32],
 ) -> Grown
     requires { ⌜ Growable (now boxes) (now above) (now standing) (now kept) bounds spot room ⌝ }
-    ensures { λ r. ⌜ GrownPart (treeAt (now (boxes .entry)) (now (standing .entry)) (now (kept .entry)) bounds spot)
-        spot room (now (nodes .entry)) (now (pool .entry)) r (now (nodes .exit)) (now (pool .exit)) ⌝ }
+    ensures { λ r. ⌜ GrownPart
+        (grownAt (now (boxes .entry)) (now (standing .entry)) (now (kept .entry)) bounds spot room) spot room
+        (now (nodes .entry)) (now (pool .entry)) r (now (nodes .exit)) (now (pool .exit)) ⌝ }
 {
     let mut met = [0u32; MOST_RULES];
     match look_at(boxes, above, standing, kept, bounds, spot, room, &mut met) {
+        Look::Bud => Grown::Part {
+            next: spot.node,
+            entries: spot.entries,
+            open: true,
+        },
         Look::Refused(why) => Grown::Refused(why),
         Look::Leaf { count } => leaf_part(&met[..count], spot, room, nodes, pool),
         Look::Cut {
@@ -93,8 +107,12 @@ pub(crate) fn grow(
             pool,
         ) {
             Grown::Refused(why) => Grown::Refused(why),
-            Grown::Part { next, entries } => {
-                store_cut(nodes, spot, field, value, next);
+            Grown::Part {
+                next,
+                entries,
+                open: _,
+            } => {
+                store_cut(nodes, spot, field, value, right_child(next, room.end));
                 grow(
                     boxes,
                     &met[..count],
@@ -129,6 +147,9 @@ fn look_at(
         (now (met .exit)) r ⌝ }
 {
     let at = spot.node;
+    if room.end <= at {
+        return Look::Bud;
+    }
     let words = (at + 1) * NODE_WORDS;
     if room.nodes < words {
         return Look::Refused(Refusal::OutputShort {
@@ -184,6 +205,16 @@ fn right_spot(spot: Spot, next: usize, entries: usize) -> Spot
     }
 }
 
+// The right child of a cut whose right part is to begin at node `next`: 0 where that is not before the end.
+fn right_child(next: usize, end: usize) -> usize
+    ensures { λ r. ⌜ r ≡ childBefore end next ⌝ }
+{
+    if next < end {
+        return next;
+    }
+    0
+}
+
 // A leaf with these entries.
 fn leaf_part(list: &[u32], spot: Spot, room: Room, nodes: &mut [u32], pool: &mut [u32]) -> Grown
     requires { ⌜ LeafFits (now list) spot room ⌝ }
@@ -210,6 +241,7 @@ fn leaf_part(list: &[u32], spot: Spot, room: Room, nodes: &mut [u32], pool: &mut
     Grown::Part {
         next: at + 1,
         entries: end,
+        open: false,
     }
 }
 

@@ -1,7 +1,8 @@
--- The words of the tree that is built are *spelt*.
+-- The words of a tree that covers the rules are *spelt*.
 use Prim.Native.Nat.{ℕ, _+_, _≤_, _<_}
 use native.Mathlib.Nat.{zero-add}
 use native.Mathlib.Omega.{arith}
+use mathlib.Core.Bool.{Bool}
 use mathlib.Core.Path.{_≡_, sym, _∙_}
 use mathlib.Core.List.{List}
 use lib.ListN.{length}
@@ -12,11 +13,10 @@ use Rattle.trees.specs.Spelt.{countsBelow, Spelt}
 use Rattle.trees.proofs.LeafSpelling.{counts-first}
 use Rattle.trees.proofs.NodeSpelling.{SpeltNode}
 use Rattle.built.specs.Trees.{Tree}
-use Rattle.built.specs.Layout.{size}
-use Rattle.built.specs.BuiltTree.{builtTree, builtNodes, builtPool}
-use Rattle.built.proofs.Laying.{size-some, count-laid}
-use Rattle.built.proofs.Lying.{Lies, aLeaf, aCut, laid-lies}
-use Rattle.built.proofs.Covering.{ListsRules, Covers, byLeaf, byCut, built-covers}
+use Rattle.built.specs.Layout.{size, pooled, laid}
+use Rattle.built.proofs.Laying.{right-child-below, count-laid}
+use Rattle.built.proofs.Lying.{Lies, aBud, aLeaf, aCut}
+use Rattle.built.proofs.Covering.{ListsRules, Covers, byBud, byLeaf, byCut}
 use Rattle.built.proofs.Counting.{cut-adds-none, counts-pass}
 
 module _ (rs nodes pool : List ℕ) where
@@ -47,9 +47,11 @@ module _ (rs nodes pool : List ℕ) where
   -- each node of a tree that covers the rules is spelt, where the counts below its first make its start, and all of
   -- its nodes are there
   nodes-spelt :
-      {k i s : ℕ} {b : List (List ℕ)} {t : Tree} → Covers rs k b t → Lies nodes pool t i s → countsBelow nodes i ≡ s →
-      i + size t ≤ nodeCount nodes → (j : ℕ) → i ≤ j → j < i + size t → SpeltNode (ruleCount rs) nodes pool j
+      {far : Bool} {k i s : ℕ} {b : List (List ℕ)} {t : Tree} → Covers far rs k b t → Lies nodes pool t i s →
+      countsBelow nodes i ≡ s → i + size t ≤ nodeCount nodes → (j : ℕ) → i ≤ j → j < i + size t →
+      SpeltNode (ruleCount rs) nodes pool j
   unfolding size
+  nodes-spelt (byBud e) (aBud n) q m j l h = absurd (omega arith)
   nodes-spelt {i = i} (byLeaf w) (aLeaf there f s c u e) q m j l h =
       let at : i ≡ j = omega arith in
       rw (← at) (leaf-spelt i w f (s ∙ sym q) c (omega arith) e)
@@ -68,29 +70,29 @@ module _ (rs nodes pool : List ℕ) where
           WithinOrOver (i + 1 + size x) j → SpeltNode (ruleCount rs) nodes pool j
       go a z (below n) (over o) = a (omega arith) o
       go a z (below n) (atMost o) = z o
-      go a z (same e) o = rw (← e) (cut-spelt i (omega arith) (omega (arith, size-some y)))
+      go a z (same e) o =
+          rw (← e) (cut-spelt i (omega arith) (rw c (right-child-below y _ _ (omega arith) (omega arith))))
       go a z (above n) o = absurd (omega arith)
 
-module _ (rs : List ℕ) where
-  -- the counts below the node behind the built tree's last are all of its entries
-  built-total : countsBelow (builtNodes rs) (size (builtTree rs)) ≡ length (builtPool rs)
-  built-total =
-      let t = counts-pass rs (builtNodes rs) (builtPool rs) (built-covers rs) (laid-lies (builtTree rs))
-      (sym (counts-first (builtNodes rs))) in
-      simp zero-add at t
+module _ {far : Bool} (rs : List ℕ) {k : ℕ} {b : List (List ℕ)} (t : Tree) (c : Covers far rs k b t)
+    (w : Lies (laid t 0 0) (pooled t) t 0 0) where
+  -- the counts below the node behind the tree's last are all of its entries
+  total-is : countsBelow (laid t 0 0) (size t) ≡ length (pooled t)
+  total-is =
+      let u = counts-pass rs (laid t 0 0) (pooled t) c w (sym (counts-first (laid t 0 0))) in simp zero-add at u
 
-  built-node : (i : ℕ) → i < nodeCount (builtNodes rs) → SpeltNode (ruleCount rs) (builtNodes rs) (builtPool rs) i
-  built-node i l =
-      let m = count-laid (builtTree rs) 0 0 in
-      nodes-spelt rs (builtNodes rs) (builtPool rs) (built-covers rs) (laid-lies (builtTree rs))
-      (sym (counts-first (builtNodes rs))) (omega arith) i (omega arith) (omega arith)
+  laid-node : (i : ℕ) → i < nodeCount (laid t 0 0) → SpeltNode (ruleCount rs) (laid t 0 0) (pooled t) i
+  laid-node i l =
+      let m = count-laid t 0 0 in
+      nodes-spelt rs (laid t 0 0) (pooled t) c w (sym (counts-first (laid t 0 0))) (omega arith) i (omega arith)
+      (omega arith)
 
-  -- the words of the tree that is built are spelt
-  pub built-spelt : Spelt (ruleCount rs) (builtNodes rs) (builtPool rs)
-  built-spelt =
+  -- the words of a tree that covers the rules, and lies in them, are spelt
+  pub laid-spelt : Spelt (ruleCount rs) (laid t 0 0) (pooled t)
+  laid-spelt =
       record {
-        first = λ i l. built-node i l .first;
-        child = λ i l. built-node i l .child;
-        leaf = λ i l. built-node i l .leaf;
-        total = rw (count-laid (builtTree rs) 0 0) built-total;
+        first = λ i l. laid-node i l .first;
+        child = λ i l. laid-node i l .child;
+        leaf = λ i l. laid-node i l .leaf;
+        total = rw (count-laid t 0 0) total-is;
       }

@@ -1,5 +1,6 @@
 -- Whether a part fits, by what stands at its first node: the node's words, a leaf's entries, and the parts of a cut.
 use Prim.Native.Nat.{ℕ, _+_, _*_, _≤_, _<_}
+use native.Mathlib.Omega.{arith}
 use mathlib.Core.Path.{_≡_, _∙_}
 use mathlib.Core.List.{List}
 use lib.ListN.{length}
@@ -9,7 +10,7 @@ use Rattle.refusals.specs.declared.Refusal.the-variants.{OutputShort}
 use Rattle.refusals.specs.declared.Verdict.the-variants.{Fine, Refused}
 use Rattle.refusals.proofs.Order.{fails-refused, then-fine, then-refused}
 use Rattle.trees.specs.Words.{nodeWords}
-use Rattle.built.specs.Trees.{Tree, leaf, cut}
+use Rattle.built.specs.Trees.{Tree, bud, leaf, cut}
 use Rattle.built.specs.Layout.{size, pooled, nodeFits, entriesFit, fits}
 use Rattle.built.proofs.Fitting.{node-fits-iff, entries-fit-iff}
 
@@ -17,13 +18,14 @@ node-short : (i a : ℕ) → a < (i + 1) * nodeWords → nodeFits i a ≡ Refuse
 unfolding nodeFits
 node-short i a l = fails-refused _ (lt-leb _ _ l)
 
--- a part whose first node does not fit is refused there
+-- a part that is begun, and whose first node does not fit, is refused there
 pub first-node-short :
-    (t : Tree) (i s a b : ℕ) → a < (i + 1) * nodeWords →
+    (t : Tree) (i s a b : ℕ) → 0 < size t → a < (i + 1) * nodeWords →
     fits t i s a b ≡ Refused (OutputShort ((i + 1) * nodeWords) 0)
-unfolding fits
-first-node-short (leaf l) i s a b h = then-refused _ (node-short i a h)
-first-node-short (cut f v x y) i s a b h = then-refused _ (node-short i a h)
+unfolding fits size
+first-node-short bud i s a b some h = absurd (omega arith)
+first-node-short (leaf l) i s a b some h = then-refused _ (node-short i a h)
+first-node-short (cut f v x y) i s a b some h = then-refused _ (node-short i a h)
 
 module _ (i s a b : ℕ) (there : (i + 1) * nodeWords ≤ a) where
   -- a leaf whose words fit, and whose entries do not, is refused for the pool

@@ -3,6 +3,7 @@
 use Prim.Native.Nat.{ℕ, zero, suc, _+_, _*_, _≤_, _<_, min}
 use native.Mathlib.Numerals.{add-one}
 use native.Mathlib.Omega.{arith}
+use mathlib.Core.Bool.{Bool}
 use mathlib.Core.Path.{_≡_, refl, sym, subst, _∙_}
 use mathlib.Core.Logic.{_↔_}
 use mathlib.Core.List.{List}
@@ -19,11 +20,14 @@ use Rattle.rules.specs.Good.{listVerdict}
 use Rattle.trees.specs.Words.{nodeWords, mostNodes, mostPool, leafMark, nodeCount, fieldOf}
 use Rattle.trees.specs.Spelt.{countsBelow}
 use Rattle.trees.proofs.LeafSpelling.{counts-first}
-use Rattle.built.specs.Layout.{nodeFits, entriesFit, fits}
+use Rattle.built.specs.Trees.{Tree}
+use Rattle.built.specs.Layout.{pooled, laid, nodeFits, entriesFit, fits}
 use Rattle.built.specs.BuiltTree.{builtTree, builtNodes, buildVerdict}
 use Rattle.built.specs.FirstUnfit.{RoomAt, Unfit, nodeShort, poolShort, FirstUnfit}
 use Rattle.built.proofs.Fitting.{node-fits-iff, entries-fit-iff}
 use Rattle.built.proofs.Counting.{cut-adds-none}
+use Rattle.built.proofs.Lying.{Lies}
+use Rattle.built.proofs.Covering.{Covers, built-covers, built-lies}
 use Rattle.built.proofs.FitsInTurn.{fits-in-turn}
 
 module _ (nodes : List ℕ) (a b : ℕ) where
@@ -82,19 +86,21 @@ module _ (nodes : List ℕ) (a b : ℕ) where
       go (atMost l) = l
       go (over l) = absurd (omega (arith, cut-adds-none nodes i l, below i refl))
 
--- the tree that is built is refused for why in the room a and b exactly where why says of its first node that does not
--- fit what is wanted
+-- a tree that covers the rules is refused for why in the room a and b exactly where why says of its first node that
+-- does not fit what is wanted
 pub fits-refused-iff :
-    (rs : List ℕ) (a b : ℕ) (why : Refusal) →
-    (fits (builtTree rs) 0 0 a b ≡ Refused why) ↔ FirstUnfit (builtNodes rs) a b why
-fits-refused-iff rs a b why = (to, of)
+    {far : Bool} (rs : List ℕ) {k : ℕ} {d : List (List ℕ)} (t : Tree) → Covers far rs k d t →
+    Lies (laid t 0 0) (pooled t) t 0 0 → (a b : ℕ) (why : Refusal) →
+    (fits t 0 0 a b ≡ Refused why) ↔ FirstUnfit (laid t 0 0) a b why
+fits-refused-iff rs t c lies a b why = (to, of)
   where
     nodes : List ℕ
-    nodes = builtNodes rs
+    nodes = laid t 0 0
 
-    to : fits (builtTree rs) 0 0 a b ≡ Refused why → FirstUnfit (builtNodes rs) a b why
+    to : fits t 0 0 a b ≡ Refused why → FirstUnfit (laid t 0 0) a b why
     to e =
-        let w = lowest-of-turns (nodeCount nodes) 0 (test nodes a b) (sym (fits-in-turn rs a b) ∙ e) in
+        let w =
+        lowest-of-turns (nodeCount nodes) 0 (test nodes a b) (sym (fits-in-turn rs t c lies a b) ∙ e) in
         record {
           node = w .at;
           there = omega (arith, w .below);
@@ -102,9 +108,9 @@ fits-refused-iff rs a b why = (to, of)
           unfit = refused-unfit nodes a b (w .at) (w .refuses);
         }
 
-    of : FirstUnfit (builtNodes rs) a b why → fits (builtTree rs) 0 0 a b ≡ Refused why
+    of : FirstUnfit (laid t 0 0) a b why → fits t 0 0 a b ≡ Refused why
     of w =
-        fits-in-turn rs a b ∙
+        fits-in-turn rs t c lies a b ∙
         turns-of-lowest (nodeCount nodes) 0 (test nodes a b)
         (record {
           at = w .node;
@@ -123,4 +129,5 @@ pub build-refused-iff :
 unfolding buildVerdict
 build-refused-iff rs a b why good =
     rw (then-fine (fits (builtTree rs) 0 0 (min a (mostNodes * nodeWords)) (min b mostPool)) good)
-    (fits-refused-iff rs (min a (mostNodes * nodeWords)) (min b mostPool) why)
+    (fits-refused-iff rs (builtTree rs) (built-covers rs) (built-lies rs) (min a (mostNodes * nodeWords))
+    (min b mostPool) why)

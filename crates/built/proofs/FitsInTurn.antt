@@ -2,24 +2,31 @@
 -- up to and including it. A cut adds no entries, so that its second test cannot be the first that fails.
 use Prim.Native.Nat.{ℕ, _+_, _*_, _≤_, min}
 use native.Mathlib.Omega.{arith}
-use mathlib.Core.Path.{_≡_, sym, ap, _∙_}
+use mathlib.Core.Bool.{Bool, false}
+use mathlib.Core.Path.{_≡_, refl, sym, ap, _∙_}
 use mathlib.Core.List.{List}
 use lib.ListN.{length}
 use Rattle.refusals.specs.declared.Verdict.{Verdict}
+use Rattle.refusals.specs.declared.Verdict.the-variants.{Fine}
 use Rattle.refusals.specs.Order.{_then_, inTurn}
 use Rattle.rules.specs.Good.{listVerdict}
 use Rattle.trees.specs.Words.{nodeWords, mostNodes, mostPool, nodeCount}
 use Rattle.trees.specs.Spelt.{countsBelow}
 use Rattle.trees.proofs.LeafSpelling.{counts-first}
 use Rattle.built.specs.Trees.{Tree}
-use Rattle.built.specs.Layout.{size, pooled, nodeFits, entriesFit, fits}
-use Rattle.built.specs.BuiltTree.{builtTree, builtNodes, builtPool, buildVerdict}
+use Rattle.built.specs.Layout.{size, pooled, laid, nodeFits, entriesFit, fits}
+use Rattle.built.specs.BuiltTree.{builtTree, builtNodes, buildVerdict}
 use Rattle.built.proofs.Laying.{count-laid}
-use Rattle.built.proofs.Fitting.{entries-fit-iff, fits-fine-iff}
-use Rattle.built.proofs.Lying.{Lies, aLeaf, aCut, laid-lies}
-use Rattle.built.proofs.Covering.{Covers, byLeaf, byCut, built-covers}
+use Rattle.built.proofs.Fitting.{entries-fit-iff, fine-entries}
+use Rattle.built.proofs.Lying.{Lies, aBud, aLeaf, aCut}
+use Rattle.built.proofs.Covering.{Covers, byBud, byLeaf, byCut, built-covers, built-lies}
 use Rattle.built.proofs.Counting.{cut-adds-none, counts-pass}
 use Rattle.refusals.proofs.Splitting.{then-nothing, then-same, turns-one, turns-first-add}
+
+-- no check in turn is fine
+turns-none : (i : ℕ) (check : ℕ → Verdict) → inTurn 0 i check ≡ Fine
+unfolding inTurn
+turns-none i check = refl
 
 -- what is tested at node i, the room being a and b
 abbrev fitsAt : List ℕ → ℕ → ℕ → ℕ → Verdict
@@ -34,12 +41,13 @@ entries-fit-at nodes a b i l =
 module _ (rs nodes pool : List ℕ) (a b : ℕ) where
   -- a tree that lies behind entries that fit is tested node by node in turn
   fits-turns :
-      {k i s : ℕ} {d : List (List ℕ)} {t : Tree} → Covers rs k d t → Lies nodes pool t i s → countsBelow nodes i ≡ s →
-      s ≤ b → fits t i s a b ≡ inTurn (size t) i (fitsAt nodes a b)
+      {far : Bool} {k i s : ℕ} {d : List (List ℕ)} {t : Tree} → Covers far rs k d t → Lies nodes pool t i s →
+      countsBelow nodes i ≡ s → s ≤ b → fits t i s a b ≡ inTurn (size t) i (fitsAt nodes a b)
   unfolding fits size pooled
+  fits-turns (byBud e) (aBud {i = i} n) q h = sym (turns-none i (fitsAt nodes a b))
   fits-turns (byLeaf w) (aLeaf {l = l} {i = i} {s = s} there f start c u e) q h =
       let up : countsBelow nodes (i + 1) ≡ s + length l =
-      counts-pass rs nodes pool (byLeaf {k = 0} w) (aLeaf {l = l} there f start c u e) q in
+      counts-pass rs nodes pool {far = false} (byLeaf {k = 0} w) (aLeaf {l = l} there f start c u e) q in
       rw (turns-one i (fitsAt nodes a b), up)
   fits-turns (byCut u c p r) (aCut {i = i} {s = s} {x = x} {y = y} there f v child left right) q h =
       let first : countsBelow nodes (i + 1) ≡ s = cut-adds-none nodes i (omega arith) ∙ q in
@@ -50,19 +58,19 @@ module _ (rs nodes pool : List ℕ) (a b : ℕ) where
         ← lefts,
       )
       (ap (λ (w : Verdict). nodeFits i a then w) (then-same (fits x (i + 1) s a b)
-      (λ e. fits-turns r right (counts-pass rs nodes pool p left first) (fits-fine-iff x (i + 1) s a b .0 e .1))))
+      (λ e.
+      fits-turns r right (counts-pass rs nodes pool p left first) (fine-entries x (i + 1) s a b b h (omega arith) e))))
 
-module _ (rs : List ℕ) (a b : ℕ) where
-  -- the tree that is built is tested for the room a and b at each node in turn: the words of the nodes up to and
+module _ {far : Bool} (rs : List ℕ) {k : ℕ} {d : List (List ℕ)} (t : Tree) (c : Covers far rs k d t)
+    (w : Lies (laid t 0 0) (pooled t) t 0 0) (a b : ℕ) where
+  -- a tree that covers the rules is tested for the room a and b at each node in turn: the words of the nodes up to and
   -- including it, and then the entries of the leaves up to and including it
   pub fits-in-turn :
-      fits (builtTree rs) 0 0 a b ≡
-      inTurn (nodeCount (builtNodes rs)) 0
-      (λ i. nodeFits i a then entriesFit (countsBelow (builtNodes rs) (i + 1)) b)
+      fits t 0 0 a b ≡
+      inTurn (nodeCount (laid t 0 0)) 0 (λ i. nodeFits i a then entriesFit (countsBelow (laid t 0 0) (i + 1)) b)
   fits-in-turn =
-      rw (count-laid (builtTree rs) 0 0)
-      (fits-turns rs (builtNodes rs) (builtPool rs) a b (built-covers rs) (laid-lies (builtTree rs))
-      (sym (counts-first (builtNodes rs))) (omega arith))
+      rw (count-laid t 0 0)
+      (fits-turns rs (laid t 0 0) (pooled t) a b c w (sym (counts-first (laid t 0 0))) (omega arith))
 
 -- the build refuses with 1, 2, 11, and then with 4 at the first node that passes the room or the limits of a tree
 pub build-in-turn :
@@ -74,4 +82,5 @@ pub build-in-turn :
     nodeFits i (min a (mostNodes * nodeWords)) then entriesFit (countsBelow (builtNodes rs) (i + 1)) (min b mostPool)))
 unfolding buildVerdict
 build-in-turn rs a b =
-    ap (λ (v : Verdict). listVerdict rs then v) (fits-in-turn rs (min a (mostNodes * nodeWords)) (min b mostPool))
+    ap (λ (v : Verdict). listVerdict rs then v)
+    (fits-in-turn rs (builtTree rs) (built-covers rs) (built-lies rs) (min a (mostNodes * nodeWords)) (min b mostPool))

@@ -1,5 +1,5 @@
--- A tree lies in words: each of its nodes has its words there, and each leaf its entries; and the words of a tree have
--- it lie in them.
+-- A tree lies in words: each of its nodes has its words there, and each leaf its entries, and a part that is not begun
+-- would begin after the last node; and the words of a tree have it lie in them.
 use Prim.Native.Nat.{ℕ, _+_, _*_, _<_, _≤_}
 use native.Mathlib.Omega.{arith}
 use mathlib.Core.Path.{_≡_, refl, sym, ap, _∙_}
@@ -7,19 +7,27 @@ use mathlib.Core.List.{List, [], _∷_, _++_, append-assoc, append-nil}
 use lib.ListN.{length, getD, take, drop, length-append}
 use lib.Seq.{getD-append-add, take-at, drop-at}
 use Rattle.trees.specs.Words.{nodeWords, leafMark, nodeCount, fieldOf, valueOf, childOf, startOf, countOf, entries}
-use Rattle.built.specs.Trees.{Tree, leaf, cut}
-use Rattle.built.specs.Layout.{size, pooled, laid}
-use Rattle.built.proofs.Laying.{size-some, length-laid}
+use Rattle.built.specs.Trees.{Tree, bud, leaf, cut}
+use Rattle.built.specs.Layout.{size, pooled, rightChild, laid}
+use Rattle.built.proofs.Laying.{length-laid, count-laid}
 
 -- the tree lies in these words, its first node being node i, and its entries starting at place s of the pool
 pub data Lies (nodes pool : List ℕ) : Tree → ℕ → ℕ → Type 0 where
+  aBud : {i s : ℕ} → i ≡ nodeCount nodes → Lies nodes pool bud i s
   aLeaf :
       {l : List ℕ} {i s : ℕ} → i < nodeCount nodes → fieldOf nodes i ≡ leafMark → startOf nodes i ≡ s →
       countOf nodes i ≡ length l → s + length l ≤ length pool → entries nodes pool i ≡ l → Lies nodes pool (leaf l) i s
   aCut :
       {f v i s : ℕ} {x y : Tree} → i < nodeCount nodes → fieldOf nodes i ≡ f → valueOf nodes i ≡ v →
-      childOf nodes i ≡ i + 1 + size x → Lies nodes pool x (i + 1) s →
+      childOf nodes i ≡ rightChild y (i + 1 + size x) → Lies nodes pool x (i + 1) s →
       Lies nodes pool y (i + 1 + size x) (s + length (pooled x)) → Lies nodes pool (cut f v x y) i s
+
+-- each part that is not begun is to begin at node m
+pub data Till (m : ℕ) : Tree → ℕ → Type 0 where
+  atBud : {i : ℕ} → i ≡ m → Till m bud i
+  atLeaf : {l : List ℕ} {i : ℕ} → Till m (leaf l) i
+  atCut :
+      {f v i : ℕ} {x y : Tree} → Till m x (i + 1) → Till m y (i + 1 + size x) → Till m (cut f v x y) i
 
 -- the words of a tree stand in nodes and pool between others: the words of i nodes come before its own, and s entries
 -- before its entries
@@ -39,8 +47,8 @@ module _ {nodes pool : List ℕ} {t : Tree} {i s : ℕ} (w : WordsIn nodes pool 
   word-at j = rw (w .words, ← (w .nodes-before)) (getD-append-add (w .before) (laid t i s ++ w .after) j 0)
 
   -- the tree's first node is there
-  node-there : i < nodeCount nodes
-  node-there =
+  node-there : 0 < size t → i < nodeCount nodes
+  node-there some =
       omega (
         arith,
         ap length (w .words),
@@ -48,7 +56,6 @@ module _ {nodes pool : List ℕ} {t : Tree} {i s : ℕ} (w : WordsIn nodes pool 
         length-append (laid t i s) (w .after),
         w .nodes-before,
         length-laid t i s,
-        size-some t,
       )
 
   -- its entries lie within the pool
@@ -75,10 +82,11 @@ module _ {nodes pool : List ℕ} {f v i s : ℕ} {x y : Tree} (w : WordsIn nodes
   unfolding laid pooled
   words-left =
       record {
-        before = w .before ++ (f ∷ v ∷ (i + 1 + size x) ∷ []);
+        before = w .before ++ (f ∷ v ∷ rightChild y (i + 1 + size x) ∷ []);
         after = laid y (i + 1 + size x) (s + length (pooled x)) ++ w .after;
         words = w .words ∙ simp append-assoc;
-        nodes-before = omega (arith, w .nodes-before, length-append (w .before) (f ∷ v ∷ (i + 1 + size x) ∷ []));
+        nodes-before =
+            omega (arith, w .nodes-before, length-append (w .before) (f ∷ v ∷ rightChild y (i + 1 + size x) ∷ []));
         pool-before = w .pool-before;
         pool-after = pooled y ++ w .pool-after;
         entries-there = w .entries-there ∙ simp append-assoc;
@@ -90,14 +98,14 @@ module _ {nodes pool : List ℕ} {f v i s : ℕ} {x y : Tree} (w : WordsIn nodes
   unfolding laid pooled
   words-right =
       record {
-        before = w .before ++ (f ∷ v ∷ (i + 1 + size x) ∷ laid x (i + 1) s);
+        before = w .before ++ (f ∷ v ∷ rightChild y (i + 1 + size x) ∷ laid x (i + 1) s);
         after = w .after;
         words = w .words ∙ simp append-assoc;
         nodes-before =
             omega (
               arith,
               w .nodes-before,
-              length-append (w .before) (f ∷ v ∷ (i + 1 + size x) ∷ laid x (i + 1) s),
+              length-append (w .before) (f ∷ v ∷ rightChild y (i + 1 + size x) ∷ laid x (i + 1) s),
               length-laid x (i + 1) s,
             );
         pool-before = w .pool-before ++ pooled x;
@@ -106,19 +114,22 @@ module _ {nodes pool : List ℕ} {f v i s : ℕ} {x y : Tree} (w : WordsIn nodes
         entries-before = omega (arith, w .entries-before, length-append (w .pool-before) (pooled x));
       }
 
-lies-of-words : (nodes pool : List ℕ) (t : Tree) (i s : ℕ) → WordsIn nodes pool t i s → Lies nodes pool t i s
-unfolding laid pooled entries
-lies-of-words nodes pool (leaf l) i s w =
-    aLeaf {l = l} (node-there w) (word-at w 0) (word-at w 1) (word-at w 2) (entries-within w)
+lies-of-words :
+    (nodes pool : List ℕ) (t : Tree) (i s : ℕ) → WordsIn nodes pool t i s → Till (nodeCount nodes) t i →
+    Lies nodes pool t i s
+unfolding laid pooled entries size
+lies-of-words nodes pool bud i s w (atBud e) = aBud e
+lies-of-words nodes pool (leaf l) i s w atLeaf =
+    aLeaf {l = l} (node-there w (omega arith)) (word-at w 0) (word-at w 1) (word-at w 2) (entries-within w)
     (rw (word-at w 1, word-at w 2) (entries-at w))
-lies-of-words nodes pool (cut f v x y) i s w =
-    aCut (node-there w) (word-at w 0) (word-at w 1) (word-at w 2)
-    (lies-of-words nodes pool x (i + 1) s (words-left w))
-    (lies-of-words nodes pool y (i + 1 + size x) (s + length (pooled x)) (words-right w))
+lies-of-words nodes pool (cut f v x y) i s w (atCut p q) =
+    aCut (node-there w (omega arith)) (word-at w 0) (word-at w 1) (word-at w 2)
+    (lies-of-words nodes pool x (i + 1) s (words-left w) p)
+    (lies-of-words nodes pool y (i + 1 + size x) (s + length (pooled x)) (words-right w) q)
 
 -- a tree lies in its words
-pub laid-lies : (t : Tree) → Lies (laid t 0 0) (pooled t) t 0 0
-laid-lies t =
+pub laid-lies : (t : Tree) → Till (size t) t 0 → Lies (laid t 0 0) (pooled t) t 0 0
+laid-lies t e =
     lies-of-words (laid t 0 0) (pooled t) t 0 0
     (record {
       before = [];
@@ -130,3 +141,4 @@ laid-lies t =
       entries-there = sym (append-nil (pooled t));
       entries-before = refl;
     })
+    (rw (count-laid t 0 0) e)

@@ -1,5 +1,6 @@
 -- The tree that is built, as a value apart from any words. Definitions only.
---   Tree                  a leaf with its entries; or a cut with its field, its value, its left part and its right part
+--   Tree                  a leaf with its entries; or a cut with its field, its value, its left part and its right
+--                         part; or a bud: a part that is not begun, in a tree that is not whole
 --   grown k n boxes b     the tree of box b, with k more cuts allowed: a leaf of all that meet b where it stops or no
 --                         more cuts are allowed, else cut at the chosen value of the chosen field
 use Prim.Native.Nat.{ℕ, zero, suc}
@@ -10,6 +11,7 @@ use Rattle.built.specs.Boxes.{meeting}
 use Rattle.built.specs.CutValues.{chosenField, chosenValue, stops}
 
 pub data Tree : Type 0 where
+  bud : Tree
   leaf : List ℕ → Tree
   cut : ℕ → ℕ → Tree → Tree → Tree
 

@@ -2,9 +2,11 @@
 use Rattle.claims.specs.Claims.{Claims}
 use Rattle.claims.proofs.Demand1.{code-claim, calls-claim}
 use Rattle.claims.proofs.Demand2.{twins-claim, matching-claim, by-tree-claim}
-use Rattle.claims.proofs.Demand2.{rule-file-claim, tree-file-claim}
+use Rattle.claims.proofs.Demand2.{rule-file-claim, tree-file-claim, part-file-claim, tree-or-part-claim}
 use Rattle.claims.proofs.Demand3.{tree-check-claim}
+use Rattle.claims.proofs.Parts.{part-check-claim}
 use Rattle.claims.proofs.Compiler.{compiler-claim}
+use Rattle.claims.proofs.Stops.{stopping-claim, others-claim}
 use Rattle.claims.proofs.Worked.{worked}
 use Rattle.claims.proofs.Beyond.{program-claim}
 
@@ -18,8 +20,13 @@ claims =
       by-tree = by-tree-claim;
       rule-file = rule-file-claim;
       tree-file = tree-file-claim;
+      part-file = part-file-claim;
+      tree-or-part = tree-or-part-claim;
       tree-check = tree-check-claim;
+      part-check = part-check-claim;
       compiler = compiler-claim;
+      stopping = stopping-claim;
+      others = others-claim;
       worked = worked;
       program = program-claim;
     }

@@ -10,15 +10,19 @@ use Rattle.rules.proofs.Searches.{scanned-of-good}
 use Rattle.tree_check.specs.Serves.{Serves}
 use Rattle.tree_check.proofs.Accepts.{accepts-iff-serves}
 use Rattle.tree_check.proofs.Searches.{refuses-none, same-list, same-verdict, same-words, same-first}
+use Rattle.text.specs.Words.{treeWord, partWord}
 use Rattle.text.specs.Text.{good}
+use Rattle.text.proofs.Plain.{Plain}
 use Rattle.rule_file.proofs.ReadTwins.{read-eleven-iff}
 use Rattle.rule_file.proofs.RoundTrips.{read-of-written as rules-back, written-of-read as rules-exact, good-of-read}
 use Rattle.rule_file.proofs.RoundTrips.{below-of-read as rules-below, cut-refused as rules-cut}
-use Rattle.tree_file.specs.TreeText.{Tree, tree, treeIn}
-use Rattle.tree_file.specs.TreeLines.{textOf, Fits}
+use Rattle.tree_file.specs.TreeText.{Tree, tree, fileIn}
+use Rattle.tree_file.specs.TreeLines.{fileTextOf, Fits}
 use Rattle.tree_file.proofs.RoundTrips.{read-of-written as tree-back, written-of-read as tree-exact}
 use Rattle.tree_file.proofs.RoundTrips.{spelling-of-read, below-of-read, cut-refused as tree-cut}
-use Rattle.claims.specs.Demand2.{Twins, Matching, ByTree, RuleFile, TreeFile}
+use Rattle.tree_file.proofs.RoundTrips.{tree-plain, part-plain}
+use Rattle.tree_file.proofs.FirstWords.{tree-not-part, part-not-tree}
+use Rattle.claims.specs.Demand2.{Twins, Matching, ByTree, File, RuleFile, TreeFile, PartFile, TreeOrPart}
 
 pub twins-claim : Twins
 twins-claim =
@@ -59,12 +63,23 @@ rule-file-claim =
       cut = rules-cut;
     }
 
-tree-exact-claim : (s : List ℕ) (t : Tree) → treeIn s ≡ good t → (textOf t ≡ s) × Fits t
-tree-exact-claim s (tree n ns es) e =
-    (tree-exact s n ns es e, (spelling-of-read s n ns es e, below-of-read s n ns es e))
+-- ---- the tree file and the part file, whatever the first word
 
-tree-back-claim : (t : Tree) → Fits t → treeIn (textOf t) ≡ good t
-tree-back-claim (tree n ns es) f = tree-back (f .0) (f .1)
+file-exact : (word s : List ℕ) (t : Tree) → fileIn word s ≡ good t → (fileTextOf word t ≡ s) × Fits t
+file-exact word s (tree n ns es) e =
+    (tree-exact word s n ns es e, (spelling-of-read word s n ns es e, below-of-read word s n ns es e))
+
+file-back : (word : List ℕ) → Plain word → (t : Tree) → Fits t → fileIn word (fileTextOf word t) ≡ good t
+file-back word plain (tree n ns es) f = tree-back word plain (f .0) (f .1)
+
+file-claim : (word : List ℕ) → Plain word → File (fileIn word) (fileTextOf word) Fits
+file-claim word plain = record { back = file-back word plain; exact = file-exact word; cut = tree-cut word }
 
 pub tree-file-claim : TreeFile
-tree-file-claim = record { back = tree-back-claim; exact = tree-exact-claim; cut = tree-cut }
+tree-file-claim = file-claim treeWord tree-plain
+
+pub part-file-claim : PartFile
+part-file-claim = file-claim partWord part-plain
+
+pub tree-or-part-claim : TreeOrPart
+tree-or-part-claim = record { tree-only = tree-not-part; part-only = part-not-tree }

@@ -18,7 +18,7 @@ use Rattle.trees.specs.Walk.{sideOf, stepOf, walk, walkOf}
 use Rattle.trees.specs.Search.{leafVerdict, reachVerdict, leafList, treeList, lookedAt}
 use Rattle.trees.specs.TreeAll.{treeAllVerdict}
 use Rattle.trees.specs.Spelt.{leafCount, countsBelow, leafSpelt, nodeVerdict, speltVerdict}
-use Rattle.tree_check.specs.Preorder.{lackOf, leafPart, cutPart, nodePart, partOf}
+use Rattle.tree_check.specs.Preorder.{lackOf, leafPart, cutPart, nodePart, preorderOf}
 use Rattle.tree_check.specs.TreeCheck.{rootPart, wordsVerdict, checkVerdict}
 use Rattle.claims.specs.Worked.{AllHold, table}
 
@@ -29,7 +29,7 @@ unfolding allBelow lowest upFrom keep has rises allUnder refuseUnless roomVerdic
     lacking lowestLacking matches matching ruleBox entries
     leaving written allVerdict sizeVerdict sideOf stepOf walk walkOf leafVerdict reachVerdict leafList treeList
     lookedAt treeAllVerdict leafCount countsBelow leafSpelt nodeVerdict speltVerdict lackOf leafPart cutPart
-    nodePart partOf rootPart wordsVerdict checkVerdict
+    nodePart preorderOf rootPart wordsVerdict checkVerdict
 worked = (
   (
     record { answers = refl; leaves = refl },

@@ -3,9 +3,11 @@ use Prim.Native.Nat.{ℕ}
 use mathlib.Core.List.{List}
 use Rattle.tree_check.specs.Serves.{Serves}
 use Rattle.claims.specs.Demand1.{Code, Calls}
-use Rattle.claims.specs.Demand2.{Twins, Matching, ByTree, RuleFile, TreeFile}
+use Rattle.claims.specs.Demand2.{Twins, Matching, ByTree, RuleFile, TreeFile, PartFile, TreeOrPart}
 use Rattle.claims.specs.Demand3.{TreeCheck}
+use Rattle.claims.specs.Parts.{PartCheck}
 use Rattle.claims.specs.Compiler.{Compiler}
+use Rattle.claims.specs.Stops.{Stopping, Others}
 use Rattle.claims.specs.Worked.{AllHold, table}
 use Rattle.claims.specs.Beyond.{Program}
 
@@ -17,7 +19,12 @@ pub record Claims : Type 2 where
   pub by-tree : (rs ns es : List ℕ) → Serves rs ns es → ByTree rs ns es
   pub rule-file : RuleFile
   pub tree-file : TreeFile
+  pub part-file : PartFile
+  pub tree-or-part : TreeOrPart
   pub tree-check : TreeCheck
+  pub part-check : PartCheck
   pub compiler : Compiler
+  pub stopping : Stopping
+  pub others : Others
   pub worked : AllHold table
   pub program : Program

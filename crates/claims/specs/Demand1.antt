@@ -32,9 +32,12 @@ Code M =
     in-rules.line.line_first.Statement.statement M × in-rules.line.scan_all.Statement.statement M ×
     in-rules.line.scan_first.Statement.statement M × in-trees.search.tree_all.Statement.statement M ×
     in-trees.search.tree_first.Statement.statement M × in-check.check.tree_check.Statement.statement M ×
+    in-check.part.part_check.Statement.statement M ×
     in-rule-file.write.rules_write.Statement.statement M × in-rule-file.read.rules_read.Statement.statement M ×
     in-tree-file.write.tree_write.Statement.statement M × in-tree-file.read.tree_read.Statement.statement M ×
-    in-builder.build.build.Statement.statement M × in-console.reply.reply.Statement.statement M ×
+    in-tree-file.write.part_write.Statement.statement M × in-tree-file.read.part_read.Statement.statement M ×
+    in-builder.build.build.Statement.statement M × in-builder.step.build_some.Statement.statement M ×
+    in-builder.step.build_on.Statement.statement M × in-console.reply.reply.Statement.statement M ×
     in-console.feed.feed.Statement.statement M × in-console.feed.last_reply.Statement.statement M ×
     in-policy.list.take_list.Statement.statement M × in-policy.tree.take_tree.Statement.statement M ×
     in-policy.serving.who_serves.Statement.statement M × in-policy.line.verdict_line.Statement.statement M ×
@@ -44,7 +47,9 @@ Code M =
     exports.tree.wick_tree_all.Statement.statement M × exports.tree.wick_tree_first.Statement.statement M ×
     exports.tree.wick_tree_check.Statement.statement M × exports.rule_text.wick_rules_write.Statement.statement M ×
     exports.rule_text.wick_rules_read.Statement.statement M × exports.tree_text.wick_tree_write.Statement.statement M ×
-    exports.tree_text.wick_tree_read.Statement.statement M × exports.compiler.wick_build.Statement.statement M
+    exports.tree_text.wick_tree_read.Statement.statement M × exports.tree_text.wick_part_write.Statement.statement M ×
+    exports.tree_text.wick_part_read.Statement.statement M × exports.compiler.wick_build.Statement.statement M ×
+    exports.compiler.wick_build_some.Statement.statement M × exports.compiler.wick_build_on.Statement.statement M
 
 pub record Calls : Type 0 where
   pub rule-check : (rs : List ℕ) → Fixes (rules.RuleCheck.RuleChecked rs)
@@ -65,9 +70,23 @@ pub record Calls : Type 0 where
       (s ns es : List ℕ) →
       WritesBoth ns es (tree-file.Reading.TreeRead s ns es) tree-file.Reading.paper
       (λ vs. value 1 vs * trees.Words.nodeWords) (value 2)
+  pub part-write :
+      (k : ℕ) (ns es w : List ℕ) → WritesOnly w (tree-file.Writing.PartWritten k ns es w) text.Said.paper (value 0)
+  pub part-read :
+      (s ns es : List ℕ) →
+      WritesBoth ns es (tree-file.Reading.PartRead s ns es) tree-file.Reading.paper
+      (λ vs. value 1 vs * trees.Words.nodeWords) (value 2)
   pub build :
       (rs ns es : List ℕ) →
       WritesBoth ns es (builder.Build.TreeBuilt rs ns es) builder.Build.paper
+      (λ vs. value 0 vs * trees.Words.nodeWords) (value 1)
+  pub build-some :
+      (rs : List ℕ) (most : ℕ) (ns es : List ℕ) →
+      WritesBoth ns es (builder.Build.SomeBuilt rs most ns es) builder.Build.stepPaper
+      (λ vs. value 0 vs * trees.Words.nodeWords) (value 1)
+  pub build-on :
+      (rs : List ℕ) (n : ℕ) (part kept : List ℕ) (most : ℕ) (ns es : List ℕ) →
+      WritesBoth ns es (builder.Build.OnBuilt rs n part kept most ns es) builder.Build.stepPaper
       (λ vs. value 0 vs * trees.Words.nodeWords) (value 1)
   pub reply : (bytes w : List ℕ) → WritesOnly w (text.Said.Said bytes w) text.Said.paper (value 0)
   pub take-list :

@@ -1,5 +1,5 @@
--- Demand 2: which lists have twins, what is listed, by the list or by a tree that serves it, and what the two files
--- keep. Statements only.
+-- Demand 2: which lists have twins, what is listed, by the list or by a tree that serves it, and what the files keep.
+-- Statements only.
 use Prim.Native.Nat.{ℕ, _^_, _<_}
 use mathlib.Core.Bool.{true, false}
 use mathlib.Core.Logic.{_↔_}
@@ -7,7 +7,7 @@ use mathlib.Core.Path.{_≡_}
 use mathlib.Core.List.{List, [], _∷_, _++_}
 use lib.ListN.{length}
 use Rattle.facts.specs.Lists.{has, rises}
-use Rattle.refusals.specs.declared.Refusal.the-variants.{TextStops, RuleHasTwin}
+use Rattle.refusals.specs.declared.Refusal.the-variants.{LineWrong, TextStops, RuleHasTwin}
 use Rattle.refusals.specs.declared.Verdict.the-variants.{Fine, Refused}
 use Rattle.refusals.specs.Order.{_then_, _giving_}
 use Rattle.fields.specs as fields
@@ -22,8 +22,8 @@ use Rattle.trees.specs.declared.search.TreeListed.{TreeListed}
 use Rattle.text.specs.Line.{EachUnder}
 use Rattle.text.specs.Text as text
 use Rattle.rule_file.specs.RuleText.{linesIn, rulesIn, rulesText}
-use Rattle.tree_file.specs.TreeText.{treeIn}
-use Rattle.tree_file.specs.TreeLines.{textOf, Fits}
+use Rattle.tree_file.specs.TreeText.{Tree, treeIn, partIn}
+use Rattle.tree_file.specs.TreeLines.{textOf, partTextOf, Fits}
 
 -- two rules are twins where they have the same word at each place; a list is fine exactly where it is without them and
 -- 1 and 2 do not refuse it; where they do not, it is refused with 11 exactly if it has twins: the place is the lowest
@@ -87,3 +87,12 @@ RuleFile = File rulesIn rulesText (λ ws. (listVerdict ws ≡ Fine) × EachUnder
 
 abbrev pub TreeFile : Type 0
 TreeFile = File treeIn textOf Fits
+
+-- a part is a tree whose compile was stopped
+abbrev pub PartFile : Type 0
+PartFile = File partIn partTextOf Fits
+
+-- no text is both a tree's file and a part's: what reads well as the one is refused as the other, with 9 at line 1
+pub record TreeOrPart : Type 0 where
+  pub tree-only : (s : List ℕ) (t : Tree) → treeIn s ≡ text.good t → partIn s ≡ text.refused (LineWrong 1)
+  pub part-only : (s : List ℕ) (t : Tree) → partIn s ≡ text.good t → treeIn s ≡ text.refused (LineWrong 1)

@@ -2,7 +2,9 @@
 pub mod Demand1
 pub mod Demand2
 pub mod Demand3
+pub mod Parts
 pub mod Compiler
+pub mod Stops
 pub mod Worked
 pub mod Beyond
 pub mod Claims

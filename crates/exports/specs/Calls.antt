@@ -65,6 +65,22 @@ abbrev pub TreeReadAnswered : Words → Words → Words → Words → Words → 
 TreeReadAnswered s nodes pool nodes′ pool′ answer =
     InWords plainly tree-read.paper (λ r. tree-read.TreeRead s nodes pool r nodes′ pool′) answer
 
+abbrev pub PartWriteAnswered : ℕ → Words → Words → Words → Words → Words → Type 0
+PartWriteAnswered n nodes pool found after answer =
+    InWords plainly said.paper (λ r. tree-write.PartWritten n nodes pool found r after) answer
+
+abbrev pub PartReadAnswered : Words → Words → Words → Words → Words → Words → Type 0
+PartReadAnswered s nodes pool nodes′ pool′ answer =
+    InWords plainly tree-read.paper (λ r. tree-read.PartRead s nodes pool r nodes′ pool′) answer
+
 abbrev pub BuildAnswered : Words → Words → Words → Words → Words → Words → Type 0
 BuildAnswered rs nodes pool nodes′ pool′ answer =
     InWords plainly build.paper (λ r. build.TreeBuilt rs nodes pool r nodes′ pool′) answer
+
+abbrev pub BuildSomeAnswered : Words → ℕ → Words → Words → Words → Words → Words → Type 0
+BuildSomeAnswered rs most nodes pool nodes′ pool′ answer =
+    InWords plainly build.stepPaper (λ r. build.SomeBuilt rs most nodes pool r nodes′ pool′) answer
+
+abbrev pub BuildOnAnswered : Words → ℕ → Words → Words → ℕ → Words → Words → Words → Words → Words → Type 0
+BuildOnAnswered rs n part kept most nodes pool nodes′ pool′ answer =
+    InWords plainly build.stepPaper (λ r. build.OnBuilt rs n part kept most nodes pool r nodes′ pool′) answer

@@ -2,7 +2,7 @@
 -- the root's box.
 use Prim.Native.Nat.{ℕ, _+_, _^_, _<_}
 use native.Mathlib.Omega.{arith}
-use mathlib.Core.Bool.{true}
+use mathlib.Core.Bool.{Bool, true}
 use mathlib.Core.Path.{_≡_}
 use mathlib.Core.List.{List}
 use lib.ListN.{length, getD}
@@ -16,8 +16,9 @@ use Rattle.fields.proofs.Cutting.{pairs-left, pairs-right, left-inside, right-i
 use Rattle.fields.proofs.Root.{root-ends, root-pairs, root-full}
 use Rattle.built.specs.Trees.{Tree}
 use Rattle.built.specs.Layout.{size, pooled, laid}
-use Rattle.built.proofs.Laying.{size-cut, pooled-leaf, length-pooled, laid-leaf, laid-cut}
-use Rattle.built.proofs.Covering.{Covers, byLeaf, byCut}
+use Rattle.built.proofs.Laying.{size-cut, pooled-leaf, length-pooled, right-child-below}
+use Rattle.built.proofs.Laying.{laid-bud, laid-leaf, laid-cut}
+use Rattle.built.proofs.Covering.{Covers, byBud, byLeaf, byCut}
 use Rattle.text.specs.Line.{EachUnder}
 use Rattle.text.proofs.Below.{below-append, below-at}
 
@@ -70,8 +71,9 @@ module _ {b : List (List ℕ)} {f : ℕ} (v : ℕ) (w : InRoot b) (k : f < field
 
 -- the words of a tree that covers a list in such a box have 32 bits, where its last node and its last entry have
 pub laid-under :
-    {rs : List ℕ} {k : ℕ} {b : List (List ℕ)} {t : Tree} → Covers rs k b t → InRoot b → (i s : ℕ) →
+    {far : Bool} {rs : List ℕ} {k : ℕ} {b : List (List ℕ)} {t : Tree} → Covers far rs k b t → InRoot b → (i s : ℕ) →
     i + size t < 2 ^ 32 → s + length (pooled t) < 2 ^ 32 → EachUnder (2 ^ 32) (laid t i s)
+laid-under (byBud e) w i s a c = rw (laid-bud i s) tt
 laid-under (byLeaf {l = l} lists) w i s a c =
     let few : s + length l < 2 ^ 32 = rw (pooled-leaf l) at c in
     rw (laid-leaf l i s) (omega arith, (omega arith, (omega arith, tt)))
@@ -84,5 +86,11 @@ laid-under (byCut {f = f} {v = v} {x = x} {y = y} u d p q) w i s a c =
     let right = laid-under q (right-in-root v w u d) j more (omega arith) (omega arith) in
     rw (laid-cut f v x y i s) (
       omega arith,
-      (value-under v w u d, (omega arith, below-append (2 ^ 32) (laid x (i + 1) s) (laid y j more) left right)),
+      (
+        value-under v w u d,
+        (
+          right-child-below y j (2 ^ 32) (omega arith) (omega arith),
+          below-append (2 ^ 32) (laid x (i + 1) s) (laid y j more) left right,
+        ),
+      ),
     )

@@ -16,7 +16,7 @@ use Rattle.built.proofs.BuiltAccepted.{built-serves}
 use Rattle.text.specs.Line.{EachUnder}
 use Rattle.text.specs.Text.{good}
 use Rattle.tree_file.specs.TreeText.{tree}
-use Rattle.tree_file.proofs.RoundTrips.{read-of-written}
+use Rattle.tree_file.proofs.RoundTrips.{tree-plain, read-of-written}
 use Rattle.policy.specs.Files.{treeOf}
 use Rattle.policy.specs.Output.{servingVerdict, TreeServes}
 use Rattle.policy.specs.Compiled.{largestBuild, builtText}
@@ -35,7 +35,7 @@ module _ (rs : List ℕ) (e : largestBuild rs ≡ Fine) where
   -- the text that a list is compiled into, as a tree file, says the tree that is built
   pub compiled-says : treeOf (some (builtText rs)) ≡ good (tree (ruleCount rs) (builtNodes rs) (builtPool rs))
   unfolding treeOf builtText
-  compiled-says = read-of-written (built-spelling rs e) built-under
+  compiled-says = read-of-written _ tree-plain (built-spelling rs e) built-under
 
   -- it holds a tree that may serve the list
   pub compiled-serves : TreeServes rs (some (builtText rs))

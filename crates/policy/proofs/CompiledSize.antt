@@ -3,6 +3,7 @@
 --   textBelow nodes pool i    the bytes of the lines of the first i nodes
 use Prim.Native.Nat.{ℕ, _+_, _*_, _^_, _≤_, _<_}
 use native.Mathlib.Omega.{arith}
+use mathlib.Core.Bool.{false}
 use mathlib.Core.Path.{_≡_, refl, sym, ap, _∙_}
 use mathlib.Core.List.{List, [], _∷_}
 use lib.ListN.{length, replicate, length-append}
@@ -16,10 +17,12 @@ use Rattle.trees.proofs.Sizes.{sizes-fine-iff}
 use Rattle.built.specs.Trees.{Tree, cut}
 use Rattle.built.specs.Layout.{size, pooled}
 use Rattle.built.specs.BuiltTree.{builtTree, builtNodes, builtPool}
-use Rattle.built.proofs.Laying.{size-leaf, size-cut, pooled-leaf, length-pooled, length-laid}
-use Rattle.built.proofs.Lying.{Lies, aLeaf, aCut, laid-lies}
-use Rattle.built.proofs.Covering.{ListsRules, Covers, byLeaf, byCut, built-covers}
-use Rattle.text.specs.Words.{tab, cutWord, leafWord, fourTabs}
+use Rattle.built.proofs.Laying.{size-leaf, size-cut, pooled-leaf, length-pooled, right-child, length-laid}
+use Rattle.built.proofs.Lying.{Lies, aLeaf, aCut}
+use Rattle.built.proofs.FullTrees.{full-some}
+use Rattle.built.proofs.Covering.{ListsRules, Covers, byBud, byLeaf, byCut}
+use Rattle.built.proofs.Covering.{covers-full, built-covers, built-lies}
+use Rattle.text.specs.Words.{tab, treeWord, cutWord, leafWord, fourTabs}
 use Rattle.text.specs.Line.{printFields, printLine, EachUnder}
 use Rattle.text.specs.Text.{unlines}
 use Rattle.text.proofs.Below.{below-of}
@@ -69,9 +72,10 @@ module _ (rs nodes pool : List ℕ) (few : ruleCount rs ≤ mostRules) where
 
   -- the lines of a tree that covers the list
   tree-few :
-      {k i s : ℕ} {b : List (List ℕ)} {t : Tree} → Covers rs k b t → InRoot b → Lies nodes pool t i s →
+      {k i s : ℕ} {b : List (List ℕ)} {t : Tree} → Covers false rs k b t → InRoot b → Lies nodes pool t i s →
       i + size t ≤ mostNodes →
       2 * textBelow nodes pool (i + size t) + 13 ≤ 2 * textBelow nodes pool i + 41 * size t + 8 * length (pooled t)
+  tree-few (byBud e) r w m = let z : _≡_ {A = ℕ} 0 1 = cc in absurd (omega arith)
   tree-few (byLeaf {l = l} w) r (aLeaf {i = i} there f s c u e) m =
       let one = size-leaf l in
       let line : length (nodeLine nodes pool i) ≤ 13 + length l * 4 =
@@ -82,7 +86,7 @@ module _ (rs nodes pool : List ℕ) (few : ruleCount rs ≤ mostRules) where
       let nodes-in = size-cut f v x y in
       let entries-in = length-pooled f v x y in
       let line : length (nodeLine nodes pool i) ≤ 26 =
-      rw (cut-line nodes pool i (omega arith), ef, ev, ec)
+      rw (cut-line nodes pool i (omega arith), ef, ev, ec, right-child y (i + 1 + size x) (full-some (covers-full q)))
       (cut-few i f v (i + 1 + size x) (omega arith) (omega arith) (omega (arith, value-under v r u d)) (omega arith)) in
       let a = tree-few p (left-in-root v r u d) left (omega arith) in
       let b = tree-few q (right-in-root v r u d) right (omega arith) in
@@ -99,11 +103,12 @@ module _ (rs : List ℕ) where
       let n = nodeCount (builtNodes rs) in
       let laid-words = length-laid (builtTree rs) 0 0 in
       let lines =
-      tree-few rs (builtNodes rs) (builtPool rs) (g .few) (built-covers rs) root-in-root (laid-lies (builtTree rs))
+      tree-few rs (builtNodes rs) (builtPool rs) (g .few) (built-covers rs) root-in-root (built-lies rs)
       (omega (arith, s .few-nodes)) in
       let none = ap length (text-none (nodeLine (builtNodes rs) (builtPool rs))) in
       let same : n ≡ 0 + size (builtTree rs) = omega arith in
-      rw (sym (text-parts (ruleCount rs) (builtNodes rs) (builtPool rs) (0 + size (builtTree rs)) (sym same)))
+      let parts = text-parts treeWord (ruleCount rs) (builtNodes rs) (builtPool rs) _ (sym same) in
+      rw (sym parts)
       (simp length-append
       (omega (
         arith,

@@ -106,6 +106,6 @@ tree-room (some s) {a} {b} h k = go (treeIn s) refl
     go : (t : Reading Tree) → treeIn s ≡ t → readVerdict t a b ≡ ownVerdict t
     go (refused why) e = refl
     go (good (tree n ns es)) e =
-        let fits = sizes-fine-iff ns es .0 (spelling-of-read s n ns es e .sizes) in
+        let fits = sizes-fine-iff ns es .0 (spelling-of-read _ s n ns es e .sizes) in
         then-fine _ (room-fine-iff (length ns) a .1 (omega (arith, fits .few-nodes))) ∙
         holds-fine _ (le-leb (length es) b (omega (arith, fits .short-pool)))

@@ -37,7 +37,7 @@ module _ (s : List ℕ) (a b : ℕ) where
   tree-sizes (refused why) q e z = refused-not-fine e
   tree-sizes (good (tree n ns es)) q e {k} {m} {p} z =
       let room = room-fine-iff (length ns) a .0 (then-fine-iff _ _ .0 e .0) in
-      let whole = sizes-fine-iff ns es .0 (spelling-of-read s n ns es q .sizes) .whole in
+      let whole = sizes-fine-iff ns es .0 (spelling-of-read _ s n ns es q .sizes) .whole in
       let count : m ≡ nodeCount ns = cc in
       let total : p ≡ length es = cc in
       (omega (arith, count, whole), total, omega (arith, count, room))

@@ -1,6 +1,6 @@
 -- The fixed words and the separators of lines, as bytes. Definitions only.
 --   newline, tab                      the byte that ends a line, and the one that parts its fields
---   rulesWord .. refusedWord          `rules`, `rule`, `tree`, `cut`, `leaf`, `end`, `head`, `hit` and `refused`
+--   rulesWord .. refusedWord          `rules`, `rule`, `tree`, `part`, `cut`, `leaf`, `end`, `head`, `hit`, `refused`
 --   oneTab .. fourTabs                the separators of a line of one to four numbers
 --   ruleMarks                         those of a rule: its number; two addresses with their lengths; six range ends
 --   headMarks                         those of a header: two addresses, and three numbers
@@ -22,6 +22,9 @@ ruleWord = 114 ∷ 117 ∷ 108 ∷ 101 ∷ []
 
 abbrev pub treeWord : List ℕ
 treeWord = 116 ∷ 114 ∷ 101 ∷ 101 ∷ []
+
+abbrev pub partWord : List ℕ
+partWord = 112 ∷ 97 ∷ 114 ∷ 116 ∷ []
 
 abbrev pub cutWord : List ℕ
 cutWord = 99 ∷ 117 ∷ 116 ∷ []

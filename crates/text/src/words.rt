@@ -1,10 +1,12 @@
-// The fixed words of the two files and of the program's lines, and the bytes that part them. Readers compare these and
+// The fixed words of the files and of the program's lines, and the bytes that part them. Readers compare these and
 // writers put them; they stand nowhere else.
 pub const RULES: [u8; 5] = *b"rules";
 
 pub const RULE: [u8; 4] = *b"rule";
 
 pub const TREE: [u8; 4] = *b"tree";
+
+pub const PART: [u8; 4] = *b"part";
 
 pub const CUT: [u8; 3] = *b"cut";
 

@@ -12,7 +12,8 @@ use Rattle.tree_check.specs.Serves.{Serves}
 use Rattle.tree_check.proofs.Agreement.{agrees-of-complete, complete-of-agrees}
 use Rattle.tree_check.proofs.Stages.{Reached, reached, lack-decides, formed, proper, reaches}
 
-lack-fine : (y : Lack) → lackVerdict y ≡ Fine → y ≡ Complete
+-- a lack that is fine is none
+pub lack-fine : (y : Lack) → lackVerdict y ≡ Fine → y ≡ Complete
 lack-fine Complete e = refl
 lack-fine (Lacks i r) e = refused-not-fine e
 

@@ -8,7 +8,7 @@ use Rattle.refusals.specs.declared.Refusal.{Refusal}
 use Rattle.refusals.specs.declared.Refusal.the-variants.{NodeWrong, LeafLacksRule}
 use Rattle.refusals.specs.declared.Verdict.the-variants as verdict
 use Rattle.refusals.specs.Paper.{success}
-use Rattle.refusals.proofs.Order.{holds-fine, fails-refused, then-fine, then-refused, then-fine-iff}
+use Rattle.refusals.proofs.Order.{holds-fine, fails-refused, then-fine, then-refused, then-fine-iff, then-assoc}
 use Rattle.refusals.proofs.Promises.{says-refused, says-fine, says-after}
 use Rattle.rules.specs.Words.{ruleCount}
 use Rattle.rules.specs.Good.{listVerdict}
@@ -21,33 +21,42 @@ use Rattle.tree_check.specs.declared.preorder.Part.{Part}
 use Rattle.tree_check.specs.declared.preorder.Part.the-variants as part
 use Rattle.tree_check.specs.declared.check.TreeAnswer.{TreeAnswer}
 use Rattle.tree_check.specs.declared.check.TreeAnswer.the-variants.{Refused, Accepted}
-use Rattle.tree_check.specs.TreeCheck.{rootPart, lackVerdict, partVerdict, figures}
-use Rattle.tree_check.specs.TreeCheck.{wordsVerdict, checkVerdict, TreeChecked}
+use Rattle.tree_check.specs.TreeCheck.{rootPart, lackVerdict, endVerdict, partVerdict, figures}
+use Rattle.tree_check.specs.TreeCheck.{listAndSizes, wordsVerdict, checkVerdict, TreeChecked}
 use Rattle.tree_check.specs.Steps.{Judged}
 
 -- ---- the root's part
+
+module _ (m next : ℕ) (lack : Lack) where
+  -- a node left over is refused
+  pub end-left-over : (next ≡ m → ⊥) → verdict.Refused (NodeWrong next) ≡ endVerdict m next lack
+  end-left-over n = sym (then-refused _ (fails-refused _ (ne-eqb next m n)))
+
+  module _ (q : next ≡ m) where
+    whole : lackVerdict lack ≡ endVerdict m next lack
+    whole = sym (then-fine (lackVerdict lack) (holds-fine (NodeWrong next) (eq-eqb next m q)))
+
+    -- where none is left over, and nothing lacks, it is fine
+    pub end-complete : lack ≡ Complete → verdict.Fine ≡ endVerdict m next lack
+    end-complete c = sym (ap lackVerdict c) ∙ whole
+
+    -- a leaf that lacks a rule is refused
+    pub end-lacking :
+        {node rule : ℕ} → lack ≡ Lacks node rule → verdict.Refused (LeafLacksRule node rule) ≡ endVerdict m next lack
+    end-lacking c = sym (ap lackVerdict c) ∙ whole
 
 -- a part that is refused is the refusal
 pub judged-refused : (m : ℕ) (p : Part) {why : Refusal} → p ≡ part.Refused why → Judged m p (Refused why)
 judged-refused m p e = says-refused (ap (partVerdict m) e) refl
 
 module _ (m : ℕ) (p : Part) {next cuts longest : ℕ} {lack : Lack} (e : p ≡ part.Good next cuts longest lack) where
-  -- a node left over is refused
-  pub judged-left-over : (next ≡ m → ⊥) → Judged m p (Refused (NodeWrong next))
-  judged-left-over n =
-      says-refused (ap (partVerdict m) e ∙ then-refused _ (fails-refused _ (ne-eqb next m n))) refl
+  -- so is a refusal at its end
+  pub judged-end : {why : Refusal} → endVerdict m next lack ≡ verdict.Refused why → Judged m p (Refused why)
+  judged-end q = says-refused (ap (partVerdict m) e ∙ q) refl
 
-  module _ (q : next ≡ m) where
-    whole : partVerdict m p ≡ lackVerdict lack
-    whole = ap (partVerdict m) e ∙ then-fine (lackVerdict lack) (holds-fine (NodeWrong next) (eq-eqb next m q))
-
-    -- a tree that lacks nothing is accepted
-    pub judged-accepted : lack ≡ Complete → Judged m p (Accepted cuts longest)
-    judged-accepted c = says-fine (whole ∙ ap lackVerdict c) (sym (ap (λ (x : Part). success (figures x)) e))
-
-    -- a leaf that lacks a rule is refused
-    pub judged-lacking : {node rule : ℕ} → lack ≡ Lacks node rule → Judged m p (Refused (LeafLacksRule node rule))
-    judged-lacking c = says-refused (whole ∙ ap lackVerdict c) refl
+  -- where its end is fine the tree is accepted
+  pub judged-accepted : endVerdict m next lack ≡ verdict.Fine → Judged m p (Accepted cuts longest)
+  judged-accepted q = says-fine (ap (partVerdict m) e ∙ q) (sym (ap (λ (x : Part). success (figures x)) e))
 
 -- ---- the whole check
 
@@ -80,22 +89,17 @@ words-fine-iff rs nodes pool = (
   λ h. then-fine-iff _ _ .1 (h .0, then-fine-iff _ _ .1 (h .1, spelt-fine-iff (ruleCount rs) nodes pool .1 (h .2))),
 )
 
--- a list that is refused is the refusal
-pub list-refused :
-    (rs nodes pool : List ℕ) {why : Refusal} → listVerdict rs ≡ verdict.Refused why →
-    verdict.Refused why ≡ wordsVerdict rs nodes pool
-unfolding wordsVerdict
-list-refused rs nodes pool e = sym (then-refused _ e)
-
-module _ (rs nodes pool : List ℕ) (l : listVerdict rs ≡ verdict.Fine) where
-  -- sizes that are refused are the refusal
-  pub sizes-refused :
-      {why : Refusal} → sizeVerdict nodes pool ≡ verdict.Refused why → verdict.Refused why ≡ wordsVerdict rs nodes pool
+module _ (rs nodes pool : List ℕ) where
+  -- a list or sizes that are refused are the refusal
+  pub early-refused :
+      {why : Refusal} → listAndSizes rs nodes pool ≡ verdict.Refused why →
+      verdict.Refused why ≡ wordsVerdict rs nodes pool
   unfolding wordsVerdict
-  sizes-refused e = sym (then-fine _ l ∙ then-refused _ e)
+  early-refused e = sym (then-refused _ e) ∙ then-assoc (listVerdict rs) (sizeVerdict nodes pool) _
 
   -- else the words of the nodes decide
   pub spelt-decides :
-      sizeVerdict nodes pool ≡ verdict.Fine → speltVerdict (ruleCount rs) nodes pool ≡ wordsVerdict rs nodes pool
+      listAndSizes rs nodes pool ≡ verdict.Fine →
+      speltVerdict (ruleCount rs) nodes pool ≡ wordsVerdict rs nodes pool
   unfolding wordsVerdict
-  spelt-decides e = sym (then-fine _ l ∙ then-fine _ e)
+  spelt-decides e = sym (then-fine _ e) ∙ then-assoc (listVerdict rs) (sizeVerdict nodes pool) _

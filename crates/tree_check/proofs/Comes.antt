@@ -1,6 +1,7 @@
 -- Where headers come to, in a tree whose root's part is built: each to one leaf, and it lies in that leaf's box.
 use Prim.Native.Nat.{ℕ}
 use native.Mathlib.Omega.{arith}
+use mathlib.Core.Bool.{false}
 use mathlib.Core.Path.{_≡_, ap}
 use mathlib.Core.List.{List}
 use lib.ListN.{length}
@@ -27,7 +28,7 @@ use Rattle.tree_check.proofs.Walks.{leads-walk}
 pub record Formed (rs nodes pool : List ℕ) (c l : ℕ) (y : Lack) : Type 0 where
   pub good : GoodRules rs
   pub spelt : Spelt (ruleCount rs) nodes pool
-  pub root : Built rs nodes pool mostCuts rootBox 0 (nodeCount nodes) c l y
+  pub root : Built false rs nodes pool mostCuts rootBox 0 (nodeCount nodes) c l y
 
 -- a box that is not empty has a point
 pub point-of : (b : List (List ℕ)) → Full fieldCount b → CommonPoint fieldCount b b

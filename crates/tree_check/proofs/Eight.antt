@@ -6,20 +6,18 @@ use mathlib.Core.Path.{_≡_, refl, ap, _∙_}
 use mathlib.Core.Logic.{_↔_}
 use mathlib.Core.List.{List}
 use Rattle.facts.proofs.Bools.{clash}
-use Rattle.facts.proofs.Cases.{same}
 use Rattle.refusals.specs.declared.Refusal.the-variants.{LeafLacksRule}
 use Rattle.refusals.specs.declared.Verdict.the-variants.{Refused}
 use Rattle.tree_check.specs.declared.preorder.Lack.{Lack}
 use Rattle.tree_check.specs.declared.preorder.Lack.the-variants.{Complete, Lacks}
 use Rattle.tree_check.specs.TreeCheck.{lackVerdict, checkVerdict}
-use Rattle.tree_check.specs.Lacks.{LacksFirst, LacksRule, Misleads}
-use Rattle.tree_check.proofs.Lacks.{complete-iff, lack-means}
-use Rattle.tree_check.proofs.FirstLack.{first-lack, complete-at}
-use Rattle.tree_check.proofs.OneLack.{lacks-first-unique}
+use Rattle.tree_check.specs.Lacks.{LacksRule, Misleads}
+use Rattle.tree_check.proofs.OneLack.{lacks-first, lack-is-first}
 use Rattle.tree_check.proofs.Agreement.{witness, listed-of-right, agrees-of-complete}
 use Rattle.tree_check.proofs.Stages.{Reached, reached, lack-decides, formed, proper, reaches}
 
-lack-eight : (y : Lack) {i r : ℕ} → lackVerdict y ≡ Refused (LeafLacksRule i r) → y ≡ Lacks i r
+-- a lack that is refused with 8 is the one named
+pub lack-eight : (y : Lack) {i r : ℕ} → lackVerdict y ≡ Refused (LeafLacksRule i r) → y ≡ Lacks i r
 lack-eight Complete e = let z : _≡_ {A = ℕ} 0 1 = cc in absurd (omega arith)
 lack-eight (Lacks j q) e = cc
 
@@ -33,26 +31,10 @@ eight-reached rs nodes pool e =
     (t .0, t .1, rw lack at (t .3))
 
 module _ {rs nodes pool : List ℕ} {c l i r : ℕ} (t : Reached rs nodes pool c l (Lacks i r)) where
-  -- the lack of the root's part is that of the lowest leaf that lacks a rule, and the lowest rule that it lacks
-  pub lacks-first : LacksFirst rs nodes pool i r
-  lacks-first =
-      let f = first-lack (formed t .root) refl in
-      let m = lack-means rs nodes pool (f .box) i (f .lack) .1 in
-      record {
-        box = f .box;
-        cuts = f .cuts;
-        way = f .way;
-        rule = m .rule;
-        meeting = m .meeting;
-        unlisted = m .unlisted;
-        lower-rules = m .lower;
-        lower-leaves = λ passed x d w l. complete-iff rs nodes pool d x .0 (f .lower passed x d w l);
-      }
-
   -- a legal header that comes to that leaf and matches that rule gets a wrong list
   pub misleads : Misleads rs nodes pool
   misleads =
-      let f = lacks-first in
+      let f = lacks-first (formed t .root) in
       let p = witness (formed t) (f .way) r (f .rule) (f .meeting) in
       record {
         proper = proper t;
@@ -78,17 +60,6 @@ module _ (rs nodes pool : List ℕ) where
           go Complete e = absurd (m .wrong (agrees-of-complete (formed (t .3)) e (m .header) (m .legal)))
           go (Lacks i r) e = (i, r, lack-decides (t .3) ∙ ap lackVerdict e)
 
-  -- where the root's part is reached, and i and r are the lowest leaf and rule, 8 names them
-  eight-at :
-      {c l i r : ℕ} (y : Lack) → Reached rs nodes pool c l y → LacksFirst rs nodes pool i r →
-      checkVerdict rs nodes pool ≡ Refused (LeafLacksRule i r)
-  eight-at {i = i} {r = r} Complete t f =
-      let none = complete-iff rs nodes pool (f .box) i .0 (complete-at (formed t .root) refl (f .way)) in
-      clash (none r (f .rule) (f .meeting)) (f .unlisted)
-  eight-at (Lacks j q) t f =
-      let same = lacks-first-unique (formed t) (lacks-first t) f in
-      lack-decides t ∙ rw (same .0, same .1)
-
   -- 8 with leaf i and rule r is given exactly where the list is good, the sizes hold, the tree is well formed, i is the
   -- lowest leaf that lacks a rule, and r the lowest rule that it lacks
   pub eight-at-iff :
@@ -96,7 +67,11 @@ module _ (rs nodes pool : List ℕ) where
   eight-at-iff i r = (to, of)
     where
       to : checkVerdict rs nodes pool ≡ Refused (LeafLacksRule i r) → LacksRule rs nodes pool i r
-      to e = let t = eight-reached rs nodes pool e .2 in record { proper = proper t; lacks = lacks-first t }
+      to e =
+          let t = eight-reached rs nodes pool e .2 in
+          record { proper = proper t; lacks = lacks-first (formed t .root) }
 
       of : LacksRule rs nodes pool i r → checkVerdict rs nodes pool ≡ Refused (LeafLacksRule i r)
-      of m = let t = reaches (m .proper) in eight-at (t .2) (t .3) (m .lacks)
+      of m =
+          let t = reaches (m .proper) in
+          lack-decides (t .3) ∙ ap lackVerdict (lack-is-first (t .2) (formed (t .3) .root) (m .lacks))

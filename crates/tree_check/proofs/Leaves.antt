@@ -16,12 +16,13 @@ use Rattle.tree_check.specs.declared.preorder.Lack.{Lack}
 use Rattle.tree_check.specs.declared.preorder.Lack.the-variants.{Complete, Lacks}
 use Rattle.tree_check.specs.declared.preorder.Part.{Part}
 use Rattle.tree_check.specs.declared.preorder.Part.the-variants.{Refused, Good}
-use Rattle.tree_check.specs.Preorder.{lackOf, leafPart, partOf}
+use Rattle.tree_check.specs.Preorder.{lackOf, leafPart, preorderOf}
 use Rattle.tree_check.specs.Steps.{Shallow}
 use Rattle.tree_check.proofs.Looking.{SeesLeaf}
 
 module _
-    (rs nodes pool : List ℕ) (k : ℕ) (b : List (List ℕ)) (i : ℕ) {s c : ℕ} (e : SeesLeaf rs nodes pool k b i s c)
+    (far : Bool) (rs nodes pool : List ℕ) (k : ℕ) (b : List (List ℕ)) (i : ℕ) {s c : ℕ}
+    (e : SeesLeaf far rs nodes pool k b i s c)
   where
     -- the entries that are seen lie within the pool, where the tree is spelt
     pub seen-within : {n : ℕ} → Spelt n nodes pool → s + c ≤ length pool
@@ -29,7 +30,7 @@ module _
 
     -- what is said of them is said of the part
     pub seen-part :
-        {p : Part} → p ≡ leafPart rs (take (s + c - s) (drop s pool)) b i → p ≡ partOf k rs nodes pool b i
+        {p : Part} → p ≡ leafPart rs (take (s + c - s) (drop s pool)) b i → p ≡ preorderOf far k rs nodes pool b i
     seen-part q =
         q ∙ ap (λ (l : List ℕ). leafPart rs l b i) (part-is-entries nodes pool i s c (e .is .start) (e .is .count)) ∙
         sym (e .part)

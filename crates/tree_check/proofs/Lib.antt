@@ -1,4 +1,4 @@
--- Laws of the tree check: the check of a part, node by node, and what it accepts.
+-- Laws of the tree check and the part check: the check of a part, node by node, and what it accepts.
 pub mod NotLack
 pub mod Parts
 pub mod Looking
@@ -7,6 +7,7 @@ pub mod Joining
 pub mod Checks
 pub mod Built
 pub mod Formed
+pub mod Begun
 pub mod Ways
 pub mod Bounds
 pub mod Walks
@@ -16,6 +17,8 @@ pub mod Comes
 pub mod Agreement
 pub mod Stages
 pub mod Accepts
+pub mod PartChecks
+pub mod PartStages
 pub mod Figures
 pub mod Searches
 pub mod OneLack
@@ -23,4 +26,7 @@ pub mod Eight
 pub mod Answers
 pub mod Answering
 pub mod Malformed
+pub mod FormedSoFar
+pub mod GoingOn
+pub mod PartMalformed
 pub mod Unique

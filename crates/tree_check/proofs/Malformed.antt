@@ -1,6 +1,7 @@
 -- Refusals 6 and 7: with a good list and sizes that hold, they are given exactly where the tree is not well formed.
 use Prim.Native.Nat.{ℕ}
 use native.Mathlib.Omega.{arith}
+use mathlib.Core.Bool.{false}
 use mathlib.Core.Path.{_≡_, refl, sym, subst, _∙_}
 use mathlib.Core.Logic.{_↔_, _⊎_, inl, inr}
 use mathlib.Core.List.{List}
@@ -30,7 +31,7 @@ use Rattle.tree_check.proofs.Eight.{eight-iff}
 use Rattle.tree_check.proofs.Answers.{refused-iff}
 
 -- a refusal is 6, 7 or 8
-data OfTree : Refusal → Type 0 where
+pub data OfTree : Refusal → Type 0 where
   malformed : {why : Refusal} → Malformed why → OfTree why
   lacks : {i r : ℕ} → OfTree (LeafLacksRule i r)
 
@@ -38,13 +39,14 @@ lack-of-tree : (y : Lack) → Only OfTree (lackVerdict y)
 lack-of-tree Complete = fine
 lack-of-tree (Lacks i r) = refused lacks
 
-part-of-tree :
+-- what the root's part says of a tree refuses with these alone, where the part is refused with 6 or 7
+pub part-of-tree :
     (m : ℕ) (p : Part) → ((why : Refusal) → p ≡ part.Refused why → Malformed why) → Only OfTree (partVerdict m p)
 part-of-tree m (part.Refused why) f = refused (malformed (f why refl))
 part-of-tree m (part.Good next c l y) f = then-only (unless-only _ (NodeWrong next) (malformed six)) (lack-of-tree y)
 
 -- 6 and 7 are not what the last stage says
-not-of-lack : (y : Lack) {why : Refusal} → Malformed why → lackVerdict y ≡ verdict.Refused why → ⊥
+pub not-of-lack : (y : Lack) {why : Refusal} → Malformed why → lackVerdict y ≡ verdict.Refused why → ⊥
 not-of-lack Complete m e = refused-not-fine (sym e)
 not-of-lack (Lacks i r) six e = let z : _≡_ {A = ℕ} 0 1 = cc in omega arith
 not-of-lack (Lacks i r) seven e = let z : _≡_ {A = ℕ} 0 1 = cc in omega arith
@@ -58,7 +60,7 @@ module _
       then-only
       (subst (Only OfTree) (sym (then-fine _ list ∙ then-fine _ size))
       (only-wider (λ why m. malformed m) (spelt-malformed (ruleCount rs) nodes pool)))
-      (part-of-tree (nodeCount nodes) _ (part-malformed rs nodes pool mostCuts rootBox 0))
+      (part-of-tree (nodeCount nodes) _ (part-malformed false rs nodes pool mostCuts rootBox 0))
 
   -- a well-formed tree is not refused with 6 or 7
   not-refused :

@@ -53,14 +53,14 @@ then-last (refused n) l e = not-last n l e
 -- ---- the stages
 
 -- the rule check never says that a leaf lacks a rule
-list-no-lack : (rs : List ℕ) → Only NotLack (listVerdict rs)
+pub list-no-lack : (rs : List ℕ) → Only NotLack (listVerdict rs)
 unfolding listVerdict twinsVerdict twinVerdict
 list-no-lack rs =
     then-only (only-wider (λ why l e. omega arith) (rules-only rs))
     (turns-only _ _ _ (λ r. unless-only _ (RuleHasTwin r _) (λ e. omega arith)))
 
 -- nor do the sizes
-sizes-no-lack : (nodes pool : List ℕ) → Only NotLack (sizeVerdict nodes pool)
+pub sizes-no-lack : (nodes pool : List ℕ) → Only NotLack (sizeVerdict nodes pool)
 unfolding sizeVerdict
 sizes-no-lack nodes pool =
     then-only (unless-only _ TreeWordsWrong (λ e. omega arith))

@@ -2,6 +2,7 @@
 -- accepts that, and the part's lack decides.
 use Prim.Native.Nat.{ℕ}
 use native.Mathlib.Omega.{arith}
+use mathlib.Core.Bool.{false}
 use mathlib.Core.Path.{_≡_, refl, ap, _∙_}
 use mathlib.Core.List.{List}
 use lib.Dec.{eqb}
@@ -37,7 +38,8 @@ pub record Reached (rs nodes pool : List ℕ) (c l : ℕ) (y : Lack) : Type 0 wh
   pub spelt : Spelt (ruleCount rs) nodes pool
   pub root : rootPart rs nodes pool ≡ Good (nodeCount nodes) c l y
 
-part-last :
+-- where the root's part says what only the last stage says, it is accepted, and its lack decides
+pub part-last :
     (m : ℕ) (p : Part) {u : Verdict} → ((why : Refusal) → p ≡ Refused why → Malformed why) → Last u →
     partVerdict m p ≡ u → (c : ℕ) × (l : ℕ) × (y : Lack) × (p ≡ Good m c l y) × (lackVerdict y ≡ u)
 part-last m (Refused why) n l e = not-last (not-lack-of-malformed why (n why refl)) l e
@@ -55,7 +57,7 @@ module _ (rs nodes pool : List ℕ) where
   reached last e =
       let s = then-last (words-no-lack rs nodes pool) last e in
       let words = words-fine-iff rs nodes pool .0 (s .0) in
-      let whys = part-malformed rs nodes pool mostCuts rootBox 0 in
+      let whys = part-malformed false rs nodes pool mostCuts rootBox 0 in
       let t = part-last (nodeCount nodes) (rootPart rs nodes pool) whys last (s .1) in
       (t .0, t .1, t .2, record { list = words .0; sizes = words .1; spelt = words .2; root = t .3 }, t .4)
 
@@ -71,7 +73,7 @@ module _ {rs nodes pool : List ℕ} {c l : ℕ} {y : Lack} (t : Reached rs nodes
   -- the list is then good, and the root's part is built
   pub formed : Formed rs nodes pool c l y
   unfolding rootPart
-  formed = record { good = good-of-fine rs (t .list); spelt = t .spelt; root = built rs nodes pool (t .root) }
+  formed = record { good = good-of-fine rs (t .list); spelt = t .spelt; root = built false rs nodes pool (t .root) }
 
   -- the list and the sizes are fine, and the tree is well formed
   pub proper : Proper rs nodes pool

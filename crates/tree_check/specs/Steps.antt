@@ -1,5 +1,5 @@
 -- What the steps of the preorder check answer, in the code's enums. Definitions only.
---   lookAt nodes k b i       node i: wrong where it is missing, too deep or does not divide the box; a leaf; or a cut
+--   lookAt nodes k b i       node i: missing; wrong where it is too deep or does not divide the box; a leaf; or a cut
 --   Judged m p r             r says what the part p does of a tree of m nodes
 --   Shallow p                the cuts of a good part are few enough to count one more
 use Prim.Native.Nat.{ℕ, _<_, _^_}
@@ -16,10 +16,10 @@ use Rattle.tree_check.specs.declared.preorder.Part.the-variants.{Refused
 use Rattle.tree_check.specs.declared.check.TreeAnswer.{TreeAnswer}
 use Rattle.tree_check.specs.TreeCheck.{paper, partVerdict, figures}
 use Rattle.tree_check.specs.declared.preorder.Look.{Look}
-use Rattle.tree_check.specs.declared.preorder.Look.the-variants.{Wrong, Leaf, Cut}
+use Rattle.tree_check.specs.declared.preorder.Look.the-variants.{Missing, Wrong, Leaf, Cut}
 
 unfoldable pub lookIn : ℕ → List (List ℕ) → Node → Look
-lookIn k b node.Missing = Wrong
+lookIn k b node.Missing = Missing
 lookIn k b (node.Leaf start count) = Leaf start count
 lookIn k b (node.Cut field value child) =
     cond (eqb k 0) Wrong (cond (divides b field value) (Cut field value child) Wrong)

@@ -1,8 +1,10 @@
 -- The tree check. Definitions only.
 --   paper            an answer of the check, on paper: the most cuts above a leaf, and the longest leaf
 --   rootPart rs nodes pool    the root's part
---   partVerdict m p  what the root's part says of a tree of m nodes: its refusal, 6 at the first node left over, then 8
---   wordsVerdict     1, 2, 11, then 5, then *spelt*
+--   endVerdict m next lack    6 at the first node left over, of m nodes, where the root's part ends at next; then 8
+--   partVerdict m p  what the root's part says of a tree of m nodes: its refusal; else its endVerdict
+--   listAndSizes     1, 2, 11, then 5
+--   wordsVerdict     those, then *spelt*
 --   checkVerdict     those, then the preorder walk, then 8
 --   figures p        the most cuts above a leaf of the part p, and its longest leaf
 --   TreeChecked      the promise: what checkVerdict refuses; else the figures of the root's part
@@ -40,13 +42,19 @@ abbrev pub lackVerdict : Lack → Verdict
 lackVerdict Complete = verdict.Fine
 lackVerdict (Lacks node rule) = verdict.Refused (LeafLacksRule node rule)
 
+abbrev pub endVerdict : ℕ → ℕ → Lack → Verdict
+endVerdict m next lack = refuseUnless (eqb next m) (NodeWrong next) then lackVerdict lack
+
 abbrev pub partVerdict : ℕ → Part → Verdict
 partVerdict m (part.Refused why) = verdict.Refused why
-partVerdict m (part.Good next cuts longest lack) = refuseUnless (eqb next m) (NodeWrong next) then lackVerdict lack
+partVerdict m (part.Good next cuts longest lack) = endVerdict m next lack
 
 abbrev pub figures : Part → List ℕ
 figures (part.Refused why) = []
 figures (part.Good next cuts longest lack) = cuts ∷ longest ∷ []
+
+abbrev pub listAndSizes : List ℕ → List ℕ → List ℕ → Verdict
+listAndSizes rs nodes pool = listVerdict rs then sizeVerdict nodes pool
 
 unfoldable pub wordsVerdict : List ℕ → List ℕ → List ℕ → Verdict
 wordsVerdict rs nodes pool = listVerdict rs then sizeVerdict nodes pool then speltVerdict (ruleCount rs) nodes pool

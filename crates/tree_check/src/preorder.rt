@@ -1,4 +1,5 @@
-// The preorder check of a tree's nodes: each part is checked by the same function, with one cut fewer allowed.
+// The preorder check of a tree's nodes: each part is checked by the same function, with one cut fewer allowed. Where
+// `far` holds, the tree is one so far: its nodes may end before it does.
 use fields::bounds::Bounds;
 use fields::bounds::divides;
 use fields::bounds::left_part;
@@ -7,15 +8,18 @@ use lent::wide;
 use refusals::Refusal;
 use rules::lacking::lowest_lacking;
 use rules::words::RULE_WORDS;
+use trees::words::NODE_WORDS;
 use trees::words::Node;
 use trees::words::node_at;
 ghost use Prim.Native.Nat.{_+_, _<_, _≤_, _^_, max};
 ghost use mathlib.Core.Path.{_≡_};
 ghost use Rattle.facts.specs.Lists.{rises};
 ghost use Rattle.rules.specs.Words.{ruleCount};
+ghost use Rattle.trees.specs.Words.{nodeCount};
 ghost use Rattle.trees.specs.Spelt.{Spelt};
 ghost use Rattle.tree_check.specs.Whole.{mostCuts};
-ghost use Rattle.tree_check.specs.Preorder.{lackOf, leafPart, earlier, afterRight, partOf};
+ghost use Rattle.tree_check.specs.Preorder.{lackOf, leafPart, noPart, childAt};
+ghost use Rattle.tree_check.specs.Preorder.{earlier, afterRight, preorderOf};
 ghost use Rattle.tree_check.specs.Steps.{lookAt, Shallow};
 
 // The lowest rule that a leaf lacks; or it lacks none.
@@ -36,8 +40,9 @@ pub enum Part {
     },
 }
 
-// What stands at a node of a part: it is wrong; a leaf; or a cut that divides the box.
+// What stands at a node of a part: none is there; it is wrong; a leaf; or a cut that divides the box.
 pub enum Look {
+    Missing,
     Wrong,
     Leaf {
         start: usize,
@@ -59,11 +64,13 @@ pub(crate) fn part_of(
     at: usize,
     bounds: Bounds,
     cuts: usize,
+    far: bool,
 ) -> Part
     requires { ⌜ Spelt (ruleCount (now rules)) (now nodes) (now pool) × (cuts ≤ mostCuts) ⌝ }
-    ensures { λ r. ⌜ r ≡ partOf cuts (now (rules .entry)) (now (nodes .entry)) (now (pool .entry)) bounds at ⌝ }
+    ensures { λ r. ⌜ r ≡ preorderOf far cuts (now (rules .entry)) (now (nodes .entry)) (now (pool .entry)) bounds at ⌝ }
 {
     match look_at(nodes, at, bounds, cuts) {
+        Look::Missing => no_part(at, far),
         Look::Wrong => Part::Refused(Refusal::NodeWrong { node: at }),
         Look::Leaf { start, count } => {
             let end = start + count;
@@ -80,6 +87,7 @@ pub(crate) fn part_of(
             at + 1,
             left_part(bounds, field, value),
             cuts - 1,
+            far,
         ) {
             Part::Refused(why) => Part::Refused(why),
             Part::Good {
@@ -88,7 +96,7 @@ pub(crate) fn part_of(
                 longest,
                 lack,
             } => {
-                if child != next {
+                if child != child_at(nodes, next, far) {
                     return Part::Refused(Refusal::NodeWrong { node: at });
                 }
                 join(
@@ -102,6 +110,7 @@ pub(crate) fn part_of(
                         next,
                         right_part(bounds, field, value),
                         cuts - 1,
+                        far,
                     ),
                 )
             }
@@ -114,7 +123,7 @@ fn look_at(nodes: &[u32], at: usize, bounds: Bounds, cuts: usize) -> Look
     ensures { λ r. ⌜ r ≡ lookAt (now (nodes .entry)) cuts bounds at ⌝ }
 {
     match node_at(nodes, at) {
-        Node::Missing => Look::Wrong,
+        Node::Missing => Look::Missing,
         Node::Leaf { start, count } => Look::Leaf { start, count },
         Node::Cut {
             field,
@@ -134,6 +143,34 @@ fn look_at(nodes: &[u32], at: usize, bounds: Bounds, cuts: usize) -> Look
             }
         }
     }
+}
+
+// The part of a node that is not there: so far it is not begun, and lacks nothing.
+fn no_part(at: usize, far: bool) -> Part
+    ensures { λ r. ⌜ r ≡ noPart far at ⌝ }
+{
+    if far {
+        return Part::Good {
+            next: at,
+            cuts: 0,
+            longest: 0,
+            lack: Lack::Complete,
+        };
+    }
+    Part::Refused(Refusal::NodeWrong { node: at })
+}
+
+// The right child of a cut whose left part ends at `next`: so far 0 where no node is there.
+fn child_at(nodes: &[u32], next: usize, far: bool) -> usize
+    ensures { λ r. ⌜ r ≡ childAt far (nodeCount (now (nodes .entry))) next ⌝ }
+{
+    if !far {
+        return next;
+    }
+    if next < nodes.len() / NODE_WORDS {
+        return next;
+    }
+    0
 }
 
 // A leaf with these entries: whether they rise, and the lowest rule that they lack.

@@ -16,7 +16,7 @@ use Rattle.trees.specs.Words.{nodeWords, mostNodes, mostPool, leafMark, nodeCou
 use Rattle.trees.specs.Words.{countOf, entries}
 use Rattle.trees.specs.Spelt.{countsBelow, SpeltLeaf}
 use Rattle.trees.proofs.LeafSpelling.{counts-step, cut-counts-none, leaf-counts}
-use Rattle.text.specs.Words.{tab, treeWord, cutWord, leafWord, threeTabs, fourTabs}
+use Rattle.text.specs.Words.{tab, cutWord, leafWord, threeTabs, fourTabs}
 use Rattle.text.specs.Numbers.{isDigit}
 use Rattle.text.specs.Line.{readWord, readLine, readCounted, printLine, EachUnder}
 use Rattle.text.specs.EndLines.{endLine}
@@ -40,13 +40,14 @@ module _ {n : ℕ} {ws es : List ℕ} (g : Spelling n ws es) (b : EachUnder (2 ^
   after i = within n (nodeCount ws) (length es) i (take (i * nodeWords) ws) (take (countsBelow ws i) es)
 
   -- the first line leads to the nodes
-  pub first-step : step start (firstLine n (nodeCount ws) (length es)) ≡ some (after 0)
+  pub first-step :
+      (word : List ℕ) → step (start word) (firstLine word n (nodeCount ws) (length es)) ≡ some (after 0)
   unfolding step countsFit countsBelow isDigit
-  first-step =
+  first-step word =
       let few = sizes-of g in
-      let read : readLine treeWord threeTabs (firstLine n (nodeCount ws) (length es)) ≡
+      let read : readLine word threeTabs (firstLine word n (nodeCount ws) (length es)) ≡
       some (n ∷ nodeCount ws ∷ length es ∷ []) =
-      line-back treeWord threeTabs (n ∷ nodeCount ws ∷ length es ∷ []) refl refl
+      line-back word threeTabs (n ∷ nodeCount ws ∷ length es ∷ []) refl refl
       (omega (arith, g .few), (omega (arith, few-nodes g), (omega (arith, few .short-pool), tt))) in
       rw (
         read,

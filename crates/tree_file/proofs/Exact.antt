@@ -11,7 +11,7 @@ use borrow.Author.Tests.{ltb-true, ltb-false, eqb-true}
 use Rattle.trees.specs.Words.{nodeCount}
 use Rattle.trees.specs.Spelt.{countsBelow, Spelt}
 use Rattle.trees.proofs.Sizes.{Sizes, sizes-fine-iff}
-use Rattle.text.specs.Words.{treeWord, cutWord, leafWord, endWord, oneTab, threeTabs, fourTabs}
+use Rattle.text.specs.Words.{cutWord, leafWord, endWord, oneTab, threeTabs, fourTabs}
 use Rattle.text.specs.Line.{readLine, readCounted, ended}
 use Rattle.text.specs.Text.{good}
 use Rattle.text.specs.EndLines.{onEnd, endLine}
@@ -19,12 +19,13 @@ use Rattle.text.proofs.Lines.{none-some}
 use Rattle.text.proofs.Texts.{unlines-more}
 use Rattle.text.proofs.Files.{end-exact, led-to}
 use Rattle.tree_file.specs.TreeText.{Tree, tree, State, start, within, over}
-use Rattle.tree_file.specs.TreeText.{onNode, step, finish, treeIn}
-use Rattle.tree_file.specs.TreeLines.{firstLine, nodeLines, treeText, Spelling}
+use Rattle.tree_file.specs.TreeText.{onNode, step, finish, fileIn}
+use Rattle.tree_file.specs.TreeLines.{firstLine, nodeLines, fileText, Spelling}
 use Rattle.tree_file.proofs.SoFar.{NodesSoFar, few-of}
 use Rattle.tree_file.proofs.Leads.{TextOf, SaysSoFar, first-leads, node-leads}
 
-module _ {n m p i : ℕ} {ws es t : List ℕ} (w : NodesSoFar n m p i ws es t) (l : List ℕ) (st : State) where
+module _ {word : List ℕ} {n m p i : ℕ} {ws es t : List ℕ} (w : NodesSoFar word n m p i ws es t) (l : List ℕ)
+    (st : State) where
   -- ---- the end line leads to the end
 
   module _ (h : m ≤ i) (last : length es ≡ p) where
@@ -64,21 +65,21 @@ module _ {n m p i : ℕ} {ws es t : List ℕ} (w : NodesSoFar n m p i ws es t) (
         }
 
     -- with the end line the text is that of these words
-    end-text : l ≡ endLine (m + 1) → t ++ ended l ≡ treeText n ws es
-    unfolding treeText
+    end-text : l ≡ endLine (m + 1) → t ++ ended l ≡ fileText word n ws es
+    unfolding fileText
     end-text e =
         ap (λ (u : List ℕ). u ++ ended l) (w .text) ∙
-        sym (unlines-more (firstLine n m p ∷ nodeLines ws es i) l) ∙
+        sym (unlines-more (firstLine word n m p ∷ nodeLines ws es i) l) ∙
         rw (nodes-are, last, all-are, e)
 
   -- an end line that passes
   end-leads :
       m ≤ i → onEnd (eqb (length es) p) (m + 1) (over (tree n ws es)) (readLine endWord oneTab l) ≡ some st →
-      SaysSoFar st (t ++ ended l)
+      SaysSoFar word st (t ++ ended l)
   end-leads h q =
       let e = end-exact (eqb (length es) p) (m + 1) (over (tree n ws es)) l q in
       let last : length es ≡ p = eqb-true (length es) p (e .0) in
-      subst (λ (x : State). SaysSoFar x (t ++ ended l)) (e .2)
+      subst (λ (x : State). SaysSoFar word x (t ++ ended l)) (e .2)
       (record { text = end-text h last (e .1); spelling = spelling-of h last; below = w .below })
 
   -- a line within the nodes leads on
@@ -86,30 +87,36 @@ module _ {n m p i : ℕ} {ws es t : List ℕ} (w : NodesSoFar n m p i ws es t) (
       (b : Bool) → ltb i m ≡ b →
       cond b (onNode n m p i ws es (readLine cutWord fourTabs l) (readCounted leafWord l))
       (onEnd (eqb (length es) p) (m + 1) (over (tree n ws es)) (readLine endWord oneTab l)) ≡ some st →
-      SaysSoFar st (t ++ ended l)
+      SaysSoFar word st (t ++ ended l)
   within-leads true e q = node-leads w l st (ltb-true i m e) (readLine cutWord fourTabs l) refl q
   within-leads false e q = end-leads (ltb-false i m e) q
 
 -- a line leads from what is said of one state to what is said of the next
-leads : (st st′ : State) (t l : List ℕ) → SaysSoFar st t → step st l ≡ some st′ → SaysSoFar st′ (t ++ ended l)
+leads :
+    (word : List ℕ) (st st′ : State) (t l : List ℕ) → SaysSoFar word st t → step st l ≡ some st′ →
+    SaysSoFar word st′ (t ++ ended l)
 unfolding step
-leads start st′ t l w h = first-leads l t st′ (readLine treeWord threeTabs l) refl w h
-leads (within n m p i ws es) st′ t l w h = within-leads w l st′ (ltb i m) refl h
-leads (over x) st′ t l w h = none-some h
+leads word (start first) st′ t l w h =
+    let same = ap (λ (x : List ℕ). readLine x threeTabs l) (sym (w .0)) in
+    first-leads word l t st′ (readLine first threeTabs l) same (w .1) h
+leads word (within n m p i ws es) st′ t l w h = within-leads w l st′ (ltb i m) refl h
+leads word (over x) st′ t l w h = none-some h
 
 -- a state that takes no more lines holds what the text says
 held :
-    (s : List ℕ) (st : State) (n : ℕ) (ws es : List ℕ) → SaysSoFar st s → finish st ≡ some (tree n ws es) →
-    TextOf s n ws es
+    (word s : List ℕ) (st : State) (n : ℕ) (ws es : List ℕ) → SaysSoFar word st s →
+    finish st ≡ some (tree n ws es) → TextOf word s n ws es
 unfolding finish
-held s start n ws es w e = none-some e
-held s (within r m p i vs ds) n ws es w e = none-some e
-held s (over (tree r vs ds)) n ws es w e =
+held word s (start first) n ws es w e = none-some e
+held word s (within r m p i vs ds) n ws es w e = none-some e
+held word s (over (tree r vs ds)) n ws es w e =
     let same : tree r vs ds ≡ tree n ws es = cc in
-    subst (λ (x : Tree). SaysSoFar (over x) s) same w
+    subst (λ (x : Tree). SaysSoFar word (over x) s) same w
 
 -- a text that reads well is the text of what it says, which is spelt, and its words are of 32 bits
-pub text-says : (s : List ℕ) (n : ℕ) (ws es : List ℕ) → treeIn s ≡ good (tree n ws es) → TextOf s n ws es
-unfolding treeIn
-text-says s n ws es h =
-    let d = led-to step finish SaysSoFar leads refl s (tree n ws es) h in held s (d .last) n ws es (d .led) (d .result)
+pub text-says :
+    (word s : List ℕ) (n : ℕ) (ws es : List ℕ) → fileIn word s ≡ good (tree n ws es) → TextOf word s n ws es
+unfolding fileIn
+text-says word s n ws es h =
+    let d = led-to step finish (SaysSoFar word) (leads word) (refl, refl) s (tree n ws es) h in
+    held word s (d .last) n ws es (d .led) (d .result)

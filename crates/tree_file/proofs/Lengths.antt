@@ -1,4 +1,5 @@
--- The text of a tree that is spelt is far shorter than the places of a text can count. The bounds are crude.
+-- The text of a tree that is spelt, without its first word, is far shorter than the places of a text can count. The
+-- bounds are crude.
 --   nodeMost      more bytes than a node's line takes
 use Prim.Native.Nat.{ℕ, _+_, _≤_, _<_, _^_}
 use native.Mathlib.Omega.{arith}
@@ -6,7 +7,7 @@ use mathlib.Core.List.{List, [], _∷_}
 use lib.ListN.{length, length-append}
 use Rattle.facts.proofs.Cases.{WithinOrOver, within-or-over, atMost, over}
 use Rattle.trees.specs.Words.{leafMark, nodeCount, fieldOf, countOf}
-use Rattle.text.specs.Words.{treeWord, cutWord, leafWord, endWord, oneTab, threeTabs, fourTabs}
+use Rattle.text.specs.Words.{cutWord, leafWord, endWord, oneTab, threeTabs, fourTabs}
 use Rattle.text.specs.Line.{ended, EachUnder}
 use Rattle.text.specs.Text.{unlines}
 use Rattle.text.specs.EndLines.{endLine}
@@ -14,7 +15,7 @@ use Rattle.text.proofs.Sizes.{line-size}
 use Rattle.text.proofs.Texts.{unlines-more}
 use Rattle.text.proofs.Files.{records-size}
 use Rattle.tree_file.specs.TreeLines.{cutNumbers, leafNumbers, leafMarks, nodeLine, nodeLines, firstLine}
-use Rattle.tree_file.specs.TreeLines.{treeText, Spelling}
+use Rattle.tree_file.specs.TreeLines.{fileText, Spelling}
 use Rattle.tree_file.proofs.Growing.{cut-line, leaf-line}
 use Rattle.tree_file.proofs.Spelling.{sizes-of, few-nodes, entries-count, cut-below, leaf-below}
 
@@ -40,17 +41,18 @@ module _ {n : ℕ} {ws es : List ℕ} (g : Spelling n ws es) (b : EachUnder (2 ^
       go (over l) =
           rw (cut-line ws es i l) (omega (arith, line-size cutWord fourTabs (cutNumbers ws i) (cut-below g b i h)))
 
-  -- the text of a tree that is spelt, the words of its nodes being of 32 bits, has fewer than 2 ^ 63 bytes
-  pub text-fits : length (treeText n ws es) < 2 ^ 63
-  unfolding treeText unlines
-  text-fits =
+  -- the text of a tree that is spelt, the words of its nodes being of 32 bits, has fewer than 2 ^ 62 bytes behind its
+  -- first word
+  pub text-fits : (word : List ℕ) → length (fileText word n ws es) < length word + 2 ^ 62
+  unfolding fileText unlines
+  text-fits word =
       let m = nodeCount ws in
       let first =
-      line-size treeWord threeTabs (n ∷ m ∷ length es ∷ [])
+      line-size word threeTabs (n ∷ m ∷ length es ∷ [])
       (omega (arith, g .few), (omega (arith, few-nodes g), (omega (arith, sizes-of g .short-pool), tt))) in
       let end = line-size endWord oneTab ((m + 1) ∷ []) (omega (arith, few-nodes g), tt) in
       let each : (i : ℕ) → i < m → length (ended (nodeLine ws es i)) ≤ nodeMost = λ i h.
       simp length-append (omega (arith, node-size i h)) in
       let nodes = records-size (nodeLine ws es) nodeMost m each m (omega arith) in
-      rw (unlines-more (firstLine n m (length es) ∷ nodeLines ws es m) (endLine (m + 1)))
+      rw (unlines-more (firstLine word n m (length es) ∷ nodeLines ws es m) (endLine (m + 1)))
       (simp length-append (omega (arith, first, end, nodes, few-nodes g)))

@@ -12,6 +12,7 @@ pub mod Lengths
 pub mod Writing
 pub mod Storing
 pub mod SpellingVerdict
+pub mod FirstWords
 pub mod FirstLines
 pub mod Entries
 pub mod LeafLine

@@ -32,7 +32,7 @@ two-cells (a ∷ b ∷ v) h = refl
 
 -- ---- the two kinds
 
-module _ {n m p i : ℕ} {ws es t l v : List ℕ} (w : NodesSoFar n m p i ws es t) where
+module _ {word : List ℕ} {n m p i : ℕ} {ws es t l v : List ℕ} (w : NodesSoFar word n m p i ws es t) where
   module _ (f : Line cutWord fourTabs l v) (e : cutFits m i (getD v 0 0) (getD v 1 0) (getD v 3 0) ≡ true) where
     xs : List ℕ
     xs = getD v 1 0 ∷ getD v 2 0 ∷ getD v 3 0 ∷ []
@@ -42,10 +42,10 @@ module _ {n m p i : ℕ} {ws es t l v : List ℕ} (w : NodesSoFar n m p i ws es 
     unfolding tabulate xs
     cut-text =
         let q = cut-passes m i (getD v 0 0) (getD v 1 0) (getD v 3 0) e in
-        let word : (j : ℕ) → _ = λ j. word-last ws xs i j (w .size) in
+        let word-of : (j : ℕ) → _ = λ j. word-last ws xs i j (w .size) in
         let numbers : v ≡ i ∷ getD v 1 0 ∷ getD v 2 0 ∷ getD v 3 0 ∷ [] = cells 4 v (f .count) ∙ rw (q .0) in
         f .text ∙ ap (printLine cutWord fourTabs) numbers ∙
-        sym (cut-line (ws ++ xs) (es ++ []) i (rw (word 0) (q .1)) ∙ rw (word 0, word 1, word 2))
+        sym (cut-line (ws ++ xs) (es ++ []) i (rw (word-of 0) (q .1)) ∙ rw (word-of 0, word-of 1, word-of 2))
 
     first : fieldOf (ws ++ xs) i < leafMark
     unfolding xs
@@ -105,12 +105,12 @@ module _ {n m p i : ℕ} {ws es t l v : List ℕ} (w : NodesSoFar n m p i ws es 
     part : take (getD v 1 0) (drop (length es) (es ++ ys)) ≡ ys
     part = rw (drop-append-seam es ys) (take-all (getD v 1 0) ys (omega (arith, length-ys)))
 
-    word : (j : ℕ) → getD (ws ++ ls) (i * nodeWords + j) 0 ≡ getD ls j 0
-    word j = word-last ws ls i j (w .size)
+    word-of : (j : ℕ) → getD (ws ++ ls) (i * nodeWords + j) 0 ≡ getD ls j 0
+    word-of j = word-last ws ls i j (w .size)
 
     entries-are : entries (ws ++ ls) (es ++ ys) i ≡ ys
     unfolding entries ls
-    entries-are = rw (word 1, word 2) part
+    entries-are = rw (word-of 1, word-of 2) part
 
     -- a leaf line that passes is the line of the leaf that it adds
     leaf-text : l ≡ nodeLine (ws ++ ls) (es ++ ys) i
@@ -118,28 +118,28 @@ module _ {n m p i : ℕ} {ws es t l v : List ℕ} (w : NodesSoFar n m p i ws es 
     leaf-text =
         let numbers : v ≡ i ∷ getD v 1 0 ∷ ys = two-cells v (omega (arith, length-v)) ∙ rw (passes .0) in
         f .text ∙ ap (printLine leafWord (countedMarks v)) numbers ∙
-        sym (leaf-line (ws ++ ls) (es ++ ys) i (rw (word 0) (omega arith)) ∙ rw (word 2, entries-are))
+        sym (leaf-line (ws ++ ls) (es ++ ys) i (rw (word-of 0) (omega arith)) ∙ rw (word-of 2, entries-are))
 
     -- the leaf that is added is spelt
     leaf-spelt : SpeltLeaf n (ws ++ ls) (es ++ ys) i
     unfolding ls ys
     leaf-spelt =
         record {
-          start = word 1 ∙ sym (w .total) ∙ sym (counts-kept ws ls i (omega (arith, w .size)));
-          count = rw (word 2) (passes .1);
-          within = rw (word 1, word 2, length-append es ys) (omega (arith, length-ys));
+          start = word-of 1 ∙ sym (w .total) ∙ sym (counts-kept ws ls i (omega (arith, w .size)));
+          count = rw (word-of 2) (passes .1);
+          within = rw (word-of 1, word-of 2, length-append es ys) (omega (arith, length-ys));
           rules = λ y. rw entries-are (all-under-iff-has n ys .0 (tests .1) y);
         }
 
     mark : leafMark ≤ fieldOf (ws ++ ls) i
     unfolding ls
-    mark = rw (word 0) (omega arith)
+    mark = rw (word-of 0) (omega arith)
 
     leaf-at : SpeltAt n m (ws ++ ls) (es ++ ys) i
     unfolding ls
     leaf-at =
         record {
-          first = rw (word 0) (omega arith);
+          first = rw (word-of 0) (omega arith);
           child = λ g. absurd (omega (arith, mark));
           leaf = λ g. leaf-spelt;
         }
@@ -159,7 +159,7 @@ module _ {n m p i : ℕ} {ws es t l v : List ℕ} (w : NodesSoFar n m p i ws es 
           size = refl;
           line = leaf-text;
           spelt = leaf-at;
-          count = sym (leaf-counts (ws ++ ls) i mark) ∙ word 2 ∙ sym length-ys;
+          count = sym (leaf-counts (ws ++ ls) i mark) ∙ word-of 2 ∙ sym length-ys;
           below = leaf-small;
           room = omega (arith, length-ys, passes .2);
         }

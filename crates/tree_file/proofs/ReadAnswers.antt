@@ -20,8 +20,8 @@ use Rattle.text.specs.Text.{Reading, good}
 use Rattle.text.proofs.Runs.{refused-good}
 use Rattle.tree_file.specs.declared.read.Read.{Read}
 use Rattle.tree_file.specs.declared.read.Read.the-variants.{Refused, Tree}
-use Rattle.tree_file.specs.TreeText.{tree, treeIn}
-use Rattle.tree_file.specs.Reading.{paper, roomFor, readVerdict, TreeRead}
+use Rattle.tree_file.specs.TreeText.{tree, fileIn}
+use Rattle.tree_file.specs.Reading.{paper, roomFor, readVerdict, FileRead}
 use Rattle.tree_file.specs.ReadSteps.{TreeStored, PassRead}
 use Rattle.tree_file.proofs.Spelling.{few-nodes, sizes-of}
 use Rattle.tree_file.proofs.RoundTrips.{spelling-of-read}
@@ -41,55 +41,57 @@ stored-of (PassRead.stores w) = w
 
 -- the counts of a text that reads well obey the limits
 pub stored-few :
-    (s : List ℕ) {nodes pool nodes′ pool′ : List ℕ} {n m p : ℕ} → TreeStored (treeIn s) nodes pool nodes′ pool′ n m p →
-    (m ≤ mostNodes) × (p ≤ mostPool)
-stored-few s {n = n} w =
-    let g = spelling-of-read s n (w .words) (w .entries) (w .says) in
+    (word s : List ℕ) {nodes pool nodes′ pool′ : List ℕ} {n m p : ℕ} →
+    TreeStored (fileIn word s) nodes pool nodes′ pool′ n m p → (m ≤ mostNodes) × (p ≤ mostPool)
+stored-few word s {n = n} w =
+    let g = spelling-of-read word s n (w .words) (w .entries) (w .says) in
     (omega (arith, few-nodes g, w .size), omega (arith, sizes-of g .short-pool, w .total))
 
 -- a refusal is the answer, and the words are as found
 refused-so :
-    (s : List ℕ) {nodes pool nodes′ pool′ : List ℕ} {why : Refusal} → nodes′ ≡ nodes → pool′ ≡ pool →
-    readVerdict (treeIn s) (length nodes) (length pool) ≡ verdict.Refused why →
-    TreeRead s nodes pool (Refused why) nodes′ pool′
-refused-so s same also e = (writes-refused e refl same, writes-refused e refl also)
+    (word s : List ℕ) {nodes pool nodes′ pool′ : List ℕ} {why : Refusal} → nodes′ ≡ nodes → pool′ ≡ pool →
+    readVerdict (fileIn word s) (length nodes) (length pool) ≡ verdict.Refused why →
+    FileRead word s nodes pool (Refused why) nodes′ pool′
+refused-so word s same also e = (writes-refused e refl same, writes-refused e refl also)
 
 module _
-    (s : List ℕ) {nodes pool kept kept′ a b : List ℕ} (none : length kept ≡ 0) (none′ : length kept′ ≡ 0) where
+    (word s : List ℕ) {nodes pool kept kept′ a b : List ℕ} (none : length kept ≡ 0) (none′ : length kept′ ≡ 0) where
   -- a text that is refused is refused by the reader
   pub text-refused :
-      {why : Refusal} → PassRead (treeIn s) a b kept kept′ (Refused why) →
-      TreeRead s nodes pool (Refused why) (kept ++ nodes) (kept′ ++ pool)
-  text-refused (PassRead.refuses e) = refused-so s (none-before kept nodes none) (none-before kept′ pool none′) (rw e)
+      {why : Refusal} → PassRead (fileIn word s) a b kept kept′ (Refused why) →
+      FileRead word s nodes pool (Refused why) (kept ++ nodes) (kept′ ++ pool)
+  text-refused (PassRead.refuses e) =
+      refused-so word s (none-before kept nodes none) (none-before kept′ pool none′) (rw e)
 
-  module _ {n m p : ℕ} (w : TreeStored (treeIn s) a b kept kept′ n m p) where
+  module _ {n m p : ℕ} (w : TreeStored (fileIn word s) a b kept kept′ n m p) where
     -- nodes for which there is no room are refused with their words
     pub nodes-refused :
         {needed : ℕ} → needed ≡ m * nodeWords → length (kept ++ nodes) < needed →
-        TreeRead s nodes pool (Refused (OutputShort needed 0)) (kept ++ nodes) (kept′ ++ pool)
+        FileRead word s nodes pool (Refused (OutputShort needed 0)) (kept ++ nodes) (kept′ ++ pool)
     unfolding roomFor
     nodes-refused e l =
         let same = none-before kept nodes none in
         let short = room-short (length (w .words)) (length nodes) (e ∙ sym (w .size)) (rw same at l) in
-        refused-so s same (none-before kept′ pool none′) (rw (w .says) (then-refused _ (sym short)))
+        refused-so word s same (none-before kept′ pool none′) (rw (w .says) (then-refused _ (sym short)))
 
     module _ (l : m * nodeWords ≤ length (kept ++ nodes)) where
       -- then a pool for which there is no room
       pub pool-refused :
           length (kept′ ++ pool) < p →
-          TreeRead s nodes pool (Refused (OutputShort p 1)) (kept ++ nodes) (kept′ ++ pool)
+          FileRead word s nodes pool (Refused (OutputShort p 1)) (kept ++ nodes) (kept′ ++ pool)
       unfolding roomFor
       pool-refused h =
           let same = none-before kept nodes none in
           let also = none-before kept′ pool none′ in
           let there = room-fine-iff (length (w .words)) (length nodes) .1 (omega (arith, w .size, ap length same)) in
           let short = lt-leb (length (w .entries)) (length pool) (omega (arith, w .total, ap length also)) in
-          refused-so s same also (rw (w .says, ← w .total) (then-fine _ there ∙ fails-refused _ short))
+          refused-so word s same also (rw (w .says, ← w .total) (then-fine _ there ∙ fails-refused _ short))
 
       -- with room for both, the second pass is what the reader answers
       pub read-again :
           {r : Read} {nodes′ pool′ : List ℕ} → p ≤ length (kept′ ++ pool) →
-          PassRead (treeIn s) (kept ++ nodes) (kept′ ++ pool) nodes′ pool′ r → TreeRead s nodes pool r nodes′ pool′
+          PassRead (fileIn word s) (kept ++ nodes) (kept′ ++ pool) nodes′ pool′ r →
+          FileRead word s nodes pool r nodes′ pool′
       unfolding roomFor
       read-again h (PassRead.refuses e) = refused-good (sym e ∙ w .says)
       read-again h (PassRead.stores {n = n′} {m = m′} x) =

@@ -1,6 +1,6 @@
 -- Within the nodes: what the lines that were read say of the words and entries so far.
---   NodesSoFar n m p i ws es t    the bytes t are the first line and the lines of the first i nodes of these words and
---                                 entries, which are spelt so far
+--   NodesSoFar word n m p i ws es t    the bytes t are the first line, which begins with the word, and the lines of the
+--                                      first i nodes of these words and entries, which are spelt so far
 use Prim.Native.Nat.{ℕ, _+_, _*_, _≤_, _<_, _^_}
 use native.Mathlib.Omega.{arith}
 use mathlib.Core.Bool.{true}
@@ -47,8 +47,8 @@ few-of n m p e =
 
 -- ---- one node more
 
-pub record NodesSoFar (n m p i : ℕ) (ws es t : List ℕ) : Type 0 where
-  pub text : t ≡ unlines (firstLine n m p ∷ nodeLines ws es i)
+pub record NodesSoFar (word : List ℕ) (n m p i : ℕ) (ws es t : List ℕ) : Type 0 where
+  pub text : t ≡ unlines (firstLine word n m p ∷ nodeLines ws es i)
   pub size : length ws ≡ i * nodeWords
   pub limits : countsFit n m p ≡ true
   pub most : i ≤ m
@@ -66,17 +66,17 @@ pub record NodeAdded (n m p i : ℕ) (ws es xs ys l : List ℕ) : Type 0 where
   pub below : EachUnder (2 ^ 32) xs
   pub room : length es + length ys ≤ p
 
-module _ {n m p i : ℕ} {ws es xs ys t l : List ℕ} (w : NodesSoFar n m p i ws es t) (h : i < m)
+module _ {word : List ℕ} {n m p i : ℕ} {ws es xs ys t l : List ℕ} (w : NodesSoFar word n m p i ws es t) (h : i < m)
     (x : NodeAdded n m p i ws es xs ys l) where
   -- the line of this node follows those before it
-  text-more : t ++ ended l ≡ unlines (firstLine n m p ∷ nodeLines (ws ++ xs) (es ++ ys) (i + 1))
+  text-more : t ++ ended l ≡ unlines (firstLine word n m p ∷ nodeLines (ws ++ xs) (es ++ ys) (i + 1))
   text-more =
       let kept = lines-kept ws es xs ys i (omega (arith, w .size)) (w .each) in
       let grown : nodeLines ws es i ++ (l ∷ []) ≡ nodeLines (ws ++ xs) (es ++ ys) (i + 1) =
       rw (lines-more (nodeLine (ws ++ xs) (es ++ ys)) i, kept, ← x .line) in
       ap (λ (u : List ℕ). u ++ ended l) (w .text) ∙
-      sym (unlines-more (firstLine n m p ∷ nodeLines ws es i) l) ∙
-      ap (λ (ls : List (List ℕ)). unlines (firstLine n m p ∷ ls)) grown
+      sym (unlines-more (firstLine word n m p ∷ nodeLines ws es i) l) ∙
+      ap (λ (ls : List (List ℕ)). unlines (firstLine word n m p ∷ ls)) grown
 
   -- the nodes before it stay spelt, and so is this one
   each-more : (j : ℕ) → j < i + 1 → SpeltAt n m (ws ++ xs) (es ++ ys) j
@@ -85,7 +85,7 @@ module _ {n m p i : ℕ} {ws es xs ys t l : List ℕ} (w : NodesSoFar n m p i ws
       (λ j q. spelt-kept ws es xs ys j (omega (arith, w .size)) (w .each j q)) (x .spelt)
 
   -- with one node more the lines say as much of the words and entries that it adds
-  pub so-far-more : NodesSoFar n m p (i + 1) (ws ++ xs) (es ++ ys) (t ++ ended l)
+  pub so-far-more : NodesSoFar word n m p (i + 1) (ws ++ xs) (es ++ ys) (t ++ ended l)
   so-far-more =
       record {
         text = text-more;

@@ -11,7 +11,7 @@ use Rattle.text.specs.EndLines.{endLine}
 use Rattle.text.proofs.Files.{file-parts}
 use Rattle.trees.specs.Words.{leafMark, nodeCount, fieldOf, startOf, countOf}
 use Rattle.trees.proofs.Spelling.{part-is-entries}
-use Rattle.tree_file.specs.TreeLines.{cutNumbers, leafMarks, nodeLine, nodeLines, firstLine, treeText}
+use Rattle.tree_file.specs.TreeLines.{cutNumbers, leafMarks, nodeLine, nodeLines, firstLine, fileText}
 use Rattle.tree_file.proofs.Growing.{cut-line, leaf-line}
 
 -- ---- a leaf line
@@ -48,9 +48,10 @@ module _ (ws es : List ℕ) (i : ℕ) where
 
 -- the first line, those of all nodes, and the end line make the text
 pub text-parts :
-    (n : ℕ) (ws es : List ℕ) (i : ℕ) → i ≡ nodeCount ws →
-    (ended (firstLine n (nodeCount ws) (length es)) ++ unlines (nodeLines ws es i)) ++
+    (word : List ℕ) (n : ℕ) (ws es : List ℕ) (i : ℕ) → i ≡ nodeCount ws →
+    (ended (firstLine word n (nodeCount ws) (length es)) ++ unlines (nodeLines ws es i)) ++
     ended (endLine (nodeCount ws + 1)) ≡
-    treeText n ws es
-unfolding treeText
-text-parts n ws es i e = rw e (file-parts (firstLine n (nodeCount ws) (length es)) (nodeLines ws es (nodeCount ws)) _)
+    fileText word n ws es
+unfolding fileText
+text-parts word n ws es i e =
+    rw e (file-parts (firstLine word n (nodeCount ws) (length es)) (nodeLines ws es (nodeCount ws)) _)

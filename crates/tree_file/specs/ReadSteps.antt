@@ -2,7 +2,7 @@
 --   Limits k            the counts that were announced obey the limits
 --   inNodes k i ws es   within the nodes of a tree with the counts k
 --   treeFrom st s c     what the text says from the cursor on, in that state
---   FirstLineRead       the first line: what it refuses, or the counts that it announces
+--   FirstLineRead       the first line, which is to begin with the word: what it refuses, or the counts it announces
 --   TreeStored          the words of a tree that a pass found, and where it stored them, as far as there is room
 --   PassRead            a pass over a text that says a: its refusal; or the counts, and the words are stored
 use Prim.Native.Nat.{ℕ, _*_}
@@ -21,7 +21,7 @@ use Rattle.tree_file.specs.declared.read.Read.the-variants as said
 use Rattle.tree_file.specs.declared.read.Counts.{Counts}
 use Rattle.tree_file.specs.declared.read.First.{First}
 use Rattle.tree_file.specs.declared.read.First.the-variants.{Refused, Announces}
-use Rattle.tree_file.specs.TreeText.{Tree, tree, State, within, countsFit, step, finish, treeIn}
+use Rattle.tree_file.specs.TreeText.{Tree, tree, State, within, countsFit, step, finish, fileIn}
 
 pub record Limits (k : Counts) : Type 0 where
   pub fit : countsFit (k .rules) (k .nodes) (k .pool) ≡ true
@@ -35,14 +35,14 @@ begun k = inNodes k 0 [] []
 abbrev pub treeFrom : State → List ℕ → Cursor → Reading Tree
 treeFrom st s c = readOn step finish st s c
 
-pub record TreeAnnounced (s : List ℕ) (k : Counts) (d : Cursor) : Type 0 where
-  pub moved : treeIn s ≡ treeFrom (begun k) s d
+pub record TreeAnnounced (word s : List ℕ) (k : Counts) (d : Cursor) : Type 0 where
+  pub moved : fileIn word s ≡ treeFrom (begun k) s d
   pub stands : Stands s d
   pub limits : Limits k
 
-abbrev pub FirstLineRead : List ℕ → First → Type 0
-FirstLineRead s (Refused why) = treeIn s ≡ refused why
-FirstLineRead s (Announces k d) = TreeAnnounced s k d
+abbrev pub FirstLineRead : List ℕ → List ℕ → First → Type 0
+FirstLineRead word s (Refused why) = fileIn word s ≡ refused why
+FirstLineRead word s (Announces k d) = TreeAnnounced word s k d
 
 pub record TreeStored (a : Reading Tree) (nodes pool nodes′ pool′ : List ℕ) (n m p : ℕ) : Type 0 where
   pub words : List ℕ

@@ -1,12 +1,14 @@
--- The text of a tree. Definitions only.
+-- The text of a tree, by the first word of its file. Definitions only.
 --   cutNumbers, leafNumbers    the numbers of a node's line: of a cut its number and words; of a leaf its number, its
 --                              count and its entries
 --   nodeLine nodes pool i      the line of node i
 --   nodeLines nodes pool i     the lines of the first i nodes
---   firstLine n m p            the first line
---   treeText n nodes pool      the text of a tree for n rules
+--   firstLine word n m p       the first line
+--   fileText word n nodes pool     the text of a tree for n rules, in a file that begins with that word
+--   treeText, partText         the same in a tree's file, and in a part's
 --   Spelling n nodes pool      what a tree is written for: n is at most the most rules, the sizes hold, it is spelt
---   textOf t, Fits t           the text of a tree t as words; it is written for, and its words have 32 bits
+--   textOf t, partTextOf t     the text of a tree t as words, in a tree's file, and in a part's
+--   Fits t                     it is written for, and its words have 32 bits
 use Prim.Native.Nat.{ℕ, _≤_, _^_}
 use mathlib.Core.Bool.{cond}
 use mathlib.Core.Path.{_≡_}
@@ -16,7 +18,7 @@ use Rattle.refusals.specs.declared.Verdict.the-variants.{Fine}
 use Rattle.rules.specs.Words.{mostRules}
 use Rattle.trees.specs.Words.{nodeCount, fieldOf, valueOf, childOf, countOf, entries, sizeVerdict}
 use Rattle.trees.specs.Spelt.{isCut, Spelt}
-use Rattle.text.specs.Words.{tab, treeWord, cutWord, leafWord, threeTabs, fourTabs}
+use Rattle.text.specs.Words.{tab, treeWord, partWord, cutWord, leafWord, threeTabs, fourTabs}
 use Rattle.text.specs.Line.{printLine, EachUnder}
 use Rattle.text.specs.Text.{unlines}
 use Rattle.text.specs.EndLines.{recordLines, fileLines}
@@ -39,21 +41,32 @@ nodeLine nodes pool i =
 abbrev pub nodeLines : List ℕ → List ℕ → ℕ → List (List ℕ)
 nodeLines nodes pool i = recordLines (nodeLine nodes pool) i
 
-abbrev pub firstLine : ℕ → ℕ → ℕ → List ℕ
-firstLine n m p = printLine treeWord threeTabs (n ∷ m ∷ p ∷ [])
+abbrev pub firstLine : List ℕ → ℕ → ℕ → ℕ → List ℕ
+firstLine word n m p = printLine word threeTabs (n ∷ m ∷ p ∷ [])
 
-unfoldable pub treeText : ℕ → List ℕ → List ℕ → List ℕ
-treeText n nodes pool =
-    unlines
-    (fileLines (firstLine n (nodeCount nodes) (length pool)) (nodeLines nodes pool (nodeCount nodes)) (nodeCount nodes))
+unfoldable pub fileText : List ℕ → ℕ → List ℕ → List ℕ → List ℕ
+fileText word n nodes pool =
+    let m = nodeCount nodes in unlines (fileLines (firstLine word n m (length pool)) (nodeLines nodes pool m) m)
+
+abbrev pub treeText : ℕ → List ℕ → List ℕ → List ℕ
+treeText n nodes pool = fileText treeWord n nodes pool
+
+abbrev pub partText : ℕ → List ℕ → List ℕ → List ℕ
+partText n nodes pool = fileText partWord n nodes pool
 
 pub record Spelling (n : ℕ) (nodes pool : List ℕ) : Type 0 where
   pub few : n ≤ mostRules
   pub sizes : sizeVerdict nodes pool ≡ Fine
   pub spelt : Spelt n nodes pool
 
+abbrev pub fileTextOf : List ℕ → Tree → List ℕ
+fileTextOf word (tree n nodes pool) = fileText word n nodes pool
+
 abbrev pub textOf : Tree → List ℕ
-textOf (tree n nodes pool) = treeText n nodes pool
+textOf t = fileTextOf treeWord t
+
+abbrev pub partTextOf : Tree → List ℕ
+partTextOf t = fileTextOf partWord t
 
 abbrev pub Fits : Tree → Type 0
 Fits (tree n nodes pool) = Spelling n nodes pool × EachUnder (2 ^ 32) nodes

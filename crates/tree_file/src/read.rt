@@ -1,4 +1,4 @@
-// Reading a tree file, line by line.
+// Reading a tree's file or a part's, line by line: they differ in the first word alone.
 use crate::node::Node;
 use crate::node::node_line;
 use lent::wide;
@@ -9,6 +9,7 @@ use text::cursor::Step;
 use text::cursor::wrong;
 use text::end::Ending;
 use text::end::end_line;
+use text::words::PART;
 use text::words::THREE_TABS;
 use text::words::TREE;
 use trees::words::MOST_NODES;
@@ -16,8 +17,8 @@ use trees::words::MOST_POOL;
 use trees::words::NODE_WORDS;
 ghost use mathlib.Core.Path.{_≡_};
 ghost use Rattle.text.specs.Onward.{Stands};
-ghost use Rattle.tree_file.specs.TreeText.{countsFit, treeIn};
-ghost use Rattle.tree_file.specs.Reading.{TreeRead};
+ghost use Rattle.tree_file.specs.TreeText.{countsFit, fileIn};
+ghost use Rattle.tree_file.specs.Reading.{FileRead, TreeRead, PartRead};
 ghost use Rattle.tree_file.specs.ReadSteps.{Limits, FirstLineRead, PassRead, treeFrom, begun};
 
 pub enum Read {
@@ -43,12 +44,28 @@ pub enum First {
 }
 
 // The tree of a text: its nodes from the front of `nodes` on, its entries from the front of `pool` on; what is behind
-// them is as found. A refusal leaves both as found: the text is read once without storing, then with.
+// them is as found. A refusal leaves both as found.
 pub fn tree_read(text: &[u8], nodes: &mut [u32], pool: &mut [u32]) -> Read
     ensures { λ r. ⌜ TreeRead (now (text .entry)) (now (nodes .entry)) (now (pool .entry)) r (now (nodes .exit))
         (now (pool .exit)) ⌝ }
 {
-    match read_pass(text, &mut nodes[..0], &mut pool[..0]) {
+    file_read(&TREE, text, nodes, pool)
+}
+
+// The same of a part: a tree whose compile was stopped.
+pub fn part_read(text: &[u8], nodes: &mut [u32], pool: &mut [u32]) -> Read
+    ensures { λ r. ⌜ PartRead (now (text .entry)) (now (nodes .entry)) (now (pool .entry)) r (now (nodes .exit))
+        (now (pool .exit)) ⌝ }
+{
+    file_read(&PART, text, nodes, pool)
+}
+
+// The tree of a text that is to begin with the word. The text is read once without storing, then with.
+fn file_read(word: &[u8], text: &[u8], nodes: &mut [u32], pool: &mut [u32]) -> Read
+    ensures { λ r. ⌜ FileRead (now (word .entry)) (now (text .entry)) (now (nodes .entry)) (now (pool .entry)) r
+        (now (nodes .exit)) (now (pool .exit)) ⌝ }
+{
+    match read_pass(word, text, &mut nodes[..0], &mut pool[..0]) {
         Read::Refused(why) => Read::Refused(why),
         Read::Tree {
             rules: _,
@@ -68,28 +85,28 @@ pub fn tree_read(text: &[u8], nodes: &mut [u32], pool: &mut [u32]) -> Read
                     output: 1,
                 });
             }
-            read_pass(text, nodes, pool)
+            read_pass(word, text, nodes, pool)
         }
     }
 }
 
 // One pass over a text: judges it, and stores the words of its nodes and its entries as far as there is room.
-fn read_pass(text: &[u8], nodes: &mut [u32], pool: &mut [u32]) -> Read
-    ensures { λ r. ⌜ PassRead (treeIn (now (text .entry))) (now (nodes .entry)) (now (pool .entry)) (now (nodes .exit))
-        (now (pool .exit)) r ⌝ }
+fn read_pass(word: &[u8], text: &[u8], nodes: &mut [u32], pool: &mut [u32]) -> Read
+    ensures { λ r. ⌜ PassRead (fileIn (now (word .entry)) (now (text .entry))) (now (nodes .entry))
+        (now (pool .entry)) (now (nodes .exit)) (now (pool .exit)) r ⌝ }
 {
-    match first_line(text) {
+    match first_line(word, text) {
         First::Refused(why) => Read::Refused(why),
         First::Announces(counts, next) => node_lines(text, next, counts, nodes, pool),
     }
 }
 
-// The first line, which announces the counts.
-fn first_line(text: &[u8]) -> First
-    ensures { λ r. ⌜ FirstLineRead (now (text .entry)) r ⌝ }
+// The first line, which begins with the word and announces the counts.
+fn first_line(word: &[u8], text: &[u8]) -> First
+    ensures { λ r. ⌜ FirstLineRead (now (word .entry)) (now (text .entry)) r ⌝ }
 {
     let start = Cursor { at: 0, lines: 0 };
-    let read = start.line(text, &TREE, &THREE_TABS);
+    let read = start.line(text, word, &THREE_TABS);
     let said = read.said;
     let values = read.values;
     match said {

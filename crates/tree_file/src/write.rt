@@ -1,4 +1,4 @@
-// Writing a tree file, line by line.
+// Writing a tree's file or a part's, line by line: they differ in the first word alone.
 use refusals::Refusal;
 use refusals::Verdict;
 use rules::words::MOST_RULES;
@@ -13,6 +13,7 @@ use text::words::CUT;
 use text::words::FOUR_TABS;
 use text::words::LEAF;
 use text::words::NEWLINE;
+use text::words::PART;
 use text::words::THREE_TABS;
 use text::words::TREE;
 use text::words::TWO_TABS;
@@ -28,19 +29,35 @@ ghost use Rattle.text.specs.Words.{cutWord, leafWord, fourTabs};
 ghost use Rattle.text.specs.Line.{printLine, ended};
 ghost use Rattle.text.specs.Puts.{Put};
 ghost use Rattle.text.specs.Said.{Said};
-ghost use Rattle.tree_file.specs.TreeLines.{firstLine, nodeLine, leafMarks, treeText, Spelling};
-ghost use Rattle.tree_file.specs.Writing.{spellingVerdict, TreeWritten};
+ghost use Rattle.tree_file.specs.TreeLines.{firstLine, nodeLine, leafMarks, fileText, Spelling};
+ghost use Rattle.tree_file.specs.Writing.{spellingVerdict, FileWritten, TreeWritten, PartWritten};
 ghost use Rattle.tree_file.specs.WriteSteps.{Writable};
 
 // The file of a tree for `rules` rules, from the front of `text` on; the rest of `text` is as found. A refusal writes
-// nothing: the file is written once into no room, which counts its bytes, then into the whole.
+// nothing.
 pub fn tree_write(rules: usize, nodes: &[u32], pool: &[u32], text: &mut [u8]) -> Written
     ensures { λ r. ⌜ TreeWritten rules (now (nodes .entry)) (now (pool .entry)) (now (text .entry)) r
         (now (text .exit)) ⌝ }
 {
+    file_write(&TREE, rules, nodes, pool, text)
+}
+
+// The same of a part: a tree whose compile was stopped.
+pub fn part_write(rules: usize, nodes: &[u32], pool: &[u32], text: &mut [u8]) -> Written
+    ensures { λ r. ⌜ PartWritten rules (now (nodes .entry)) (now (pool .entry)) (now (text .entry)) r
+        (now (text .exit)) ⌝ }
+{
+    file_write(&PART, rules, nodes, pool, text)
+}
+
+// The file that begins with the word, if there is such a file.
+fn file_write(word: &[u8], rules: usize, nodes: &[u32], pool: &[u32], text: &mut [u8]) -> Written
+    ensures { λ r. ⌜ FileWritten (now (word .entry)) rules (now (nodes .entry)) (now (pool .entry))
+        (now (text .entry)) r (now (text .exit)) ⌝ }
+{
     match spelling_verdict(rules, nodes, pool) {
         Verdict::Refused(why) => Written::Refused(why),
-        Verdict::Fine => write_whole(rules, nodes, pool, text),
+        Verdict::Fine => write_whole(word, rules, nodes, pool, text),
     }
 }
 
@@ -57,29 +74,29 @@ fn spelling_verdict(rules: usize, nodes: &[u32], pool: &[u32]) -> Verdict
     }
 }
 
-// The file, if there is room for it.
-fn write_whole(rules: usize, nodes: &[u32], pool: &[u32], text: &mut [u8]) -> Written
+// The file, if there is room for it: it is written once into no room, which counts its bytes, then into the whole.
+fn write_whole(word: &[u8], rules: usize, nodes: &[u32], pool: &[u32], text: &mut [u8]) -> Written
     requires { ⌜ Spelling rules (now nodes) (now pool) ⌝ }
-    ensures { λ r. ⌜ Said (treeText rules (now (nodes .entry)) (now (pool .entry))) (now (text .entry)) r
-        (now (text .exit)) ⌝ }
+    ensures { λ r. ⌜ Said (fileText (now (word .entry)) rules (now (nodes .entry)) (now (pool .entry)))
+        (now (text .entry)) r (now (text .exit)) ⌝ }
 {
-    let needed = write_pass(rules, nodes, pool, &mut text[..0]);
+    let needed = write_pass(word, rules, nodes, pool, &mut text[..0]);
     if text.len() < needed {
         return Written::Refused(Refusal::OutputShort { needed, output: 0 });
     }
     Written::Bytes {
-        bytes: write_pass(rules, nodes, pool, text),
+        bytes: write_pass(word, rules, nodes, pool, text),
     }
 }
 
 // The whole file, as far as there is room; and its length.
-fn write_pass(rules: usize, nodes: &[u32], pool: &[u32], text: &mut [u8]) -> usize
+fn write_pass(word: &[u8], rules: usize, nodes: &[u32], pool: &[u32], text: &mut [u8]) -> usize
     requires { ⌜ Spelling rules (now nodes) (now pool) ⌝ }
-    ensures { λ r. ⌜ Put (now (text .entry)) 0 (treeText rules (now (nodes .entry)) (now (pool .entry)))
-        (now (text .exit)) r ⌝ }
+    ensures { λ r. ⌜ Put (now (text .entry)) 0
+        (fileText (now (word .entry)) rules (now (nodes .entry)) (now (pool .entry))) (now (text .exit)) r ⌝ }
 {
     let count = nodes.len() / NODE_WORDS;
-    let mut at = put_first(text, rules as u32, count as u32, pool.len() as u32);
+    let mut at = put_first(text, word, rules as u32, count as u32, pool.len() as u32);
     let mut i = 0;
     while i < count {
         at = put_node(text, at, nodes, pool, i);
@@ -89,11 +106,12 @@ fn write_pass(rules: usize, nodes: &[u32], pool: &[u32], text: &mut [u8]) -> usi
 }
 
 // The first line.
-fn put_first(text: &mut [u8], rules: u32, nodes: u32, pool: u32) -> usize
-    ensures { λ r. ⌜ Put (now (text .entry)) 0 (ended (firstLine rules nodes pool)) (now (text .exit)) r ⌝ }
+fn put_first(text: &mut [u8], word: &[u8], rules: u32, nodes: u32, pool: u32) -> usize
+    ensures { λ r. ⌜ Put (now (text .entry)) 0 (ended (firstLine (now (word .entry)) rules nodes pool))
+        (now (text .exit)) r ⌝ }
 {
     let values = [rules, nodes, pool];
-    put_line(text, 0, &TREE, &THREE_TABS, &values)
+    put_line(text, 0, word, &THREE_TABS, &values)
 }
 
 // The line of node `i`.

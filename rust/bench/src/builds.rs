@@ -1,9 +1,10 @@
 //! Times the compiler beside a plain Rust compiler of the same tree, on lists of 64 and of 512 rules whose trees are
-//! within the limits; and says what share of drawn lists are.
+//! within the limits; says what share of drawn lists are; and times going on from the middle of a tree to its end.
 
 use std::hint::black_box;
+use std::time::Duration;
 
-use wickorchard::calls::build;
+use wickorchard::calls::{build, build_on, build_some, Built, Part};
 use wickorchard::limits::{MOST_NODE_WORDS, MOST_POOL_WORDS, NODE_WORDS, RULE_WORDS};
 
 use crate::plain_build::plain_build;
@@ -121,6 +122,29 @@ pub fn time(draw: &mut impl FnMut() -> u32) {
             println!(
                 "  {node_count} nodes, {entries} entries: plain {plain:?}, the library's {ours:?}, ratio {ratio:.2}"
             );
+            if node_count > 1 {
+                let (half, on) = from_the_middle(list, node_words, pool_words);
+                println!("  going on from a part of {half} nodes to the end: {on:?}");
+            }
         }
     }
+}
+
+/// Stops the build halfway, compares the words that going on gives with the whole tree's, and times that. Gives the
+/// number of nodes that stand.
+fn from_the_middle(list: &[u32], node_words: &[u32], pool_words: &[u32]) -> (u64, Duration) {
+    let rule_count = (list.len() / RULE_WORDS) as u64;
+    let half = (node_words.len() / NODE_WORDS) as u64 / 2;
+    let [mut part_nodes, mut part_pool] = [vec![0; MOST_NODE_WORDS], vec![0; MOST_POOL_WORDS]];
+    let Ok(Built::Stopped(part)) = build_some(list, half, &mut part_nodes, &mut part_pool) else {
+        panic!("half of a tree is no whole tree")
+    };
+    let [mut nodes, mut pool] = [vec![0; MOST_NODE_WORDS], vec![0; MOST_POOL_WORDS]];
+    let mut go_on = |part: Part| match build_on(list, rule_count, part, u64::MAX, &mut nodes, &mut pool) {
+        Ok(Built::Whole(tree)) => assert_eq!((tree.nodes.len(), tree.pool.len()), (node_words.len(), pool_words.len())),
+        _ => panic!("the tree fits"),
+    };
+    let on = timed(CALLS, || (0..CALLS).for_each(|_| go_on(black_box(part))));
+    assert_eq!((&nodes[..node_words.len()], &pool[..pool_words.len()]), (node_words, pool_words));
+    (half, on)
 }

@@ -1,7 +1,7 @@
 //! Times the library's tree check and tree searches beside a plain Rust walk of the same tree, at the largest sizes;
-//! the compiler beside a plain Rust compiler of the same tree; the scans of a list beside a plain Rust scan of it; and
-//! the writers and readers of both files. Given two builds of the library, it times these beside each other instead
-//! (`beside.rs`).
+//! the compiler beside a plain Rust compiler of the same tree, and going on with a part; the scans of a list beside a
+//! plain Rust scan of it; and the writers and readers of both files. Given two builds of the library, it times these
+//! beside each other instead (`beside.rs`).
 //!
 //! The plain walk trusts the tree: it looks at no node that its header does not need, refuses nothing and counts
 //! nothing.

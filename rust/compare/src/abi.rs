@@ -9,8 +9,10 @@ pub const ANSWER_WORDS: usize = 8;
 
 /// The most slices that a request names, besides the answer.
 const MOST_SLICES: usize = 6;
-/// The words of a request: the call, an offset and a length for each slice, a number, and the answer's offset.
-const REQUEST_WORDS: usize = 1 + 2 * MOST_SLICES + 2;
+/// The numbers that a request has besides.
+const NUMBERS: usize = 2;
+/// The words of a request: the call, an offset and a length for each slice, the numbers, and the answer's offset.
+const REQUEST_WORDS: usize = 1 + 2 * MOST_SLICES + NUMBERS + 1;
 
 /// Words of 32 and of 64 bits are shared with x86-64 code, which puts the lowest byte first.
 const _: () = assert!(cfg!(target_endian = "little"));
@@ -31,6 +33,10 @@ pub enum Call {
     ScanAll = 11,
     ScanFirst = 12,
     Build = 13,
+    BuildSome = 14,
+    BuildOn = 15,
+    PartWrite = 16,
+    PartRead = 17,
 }
 
 impl Call {
@@ -50,6 +56,10 @@ impl Call {
             Call::ScanAll => "wick_scan_all",
             Call::ScanFirst => "wick_scan_first",
             Call::Build => "wick_build",
+            Call::BuildSome => "wick_build_some",
+            Call::BuildOn => "wick_build_on",
+            Call::PartWrite => "wick_part_write",
+            Call::PartRead => "wick_part_read",
         }
     }
 
@@ -64,8 +74,8 @@ pub struct Request<'a> {
     pub call: Call,
     /// In the order of the call's parameters.
     pub slices: &'a [Lent],
-    /// 0 where the call takes no number.
-    pub number: u64,
+    /// In the order of the call's parameters; 0 where it takes none.
+    pub numbers: [u64; NUMBERS],
     pub answer: Lent,
 }
 
@@ -78,7 +88,8 @@ impl Request<'_> {
         for (pair, slice) in words[1..].chunks_exact_mut(2).zip(self.slices) {
             pair.copy_from_slice(&[slice.offset(), slice.length()]);
         }
-        words[REQUEST_WORDS - 2..].copy_from_slice(&[self.number, self.answer.offset()]);
+        words[1 + 2 * MOST_SLICES..][..NUMBERS].copy_from_slice(&self.numbers);
+        words[REQUEST_WORDS - 1] = self.answer.offset();
         words
     }
 }

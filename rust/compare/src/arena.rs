@@ -9,7 +9,8 @@ use std::ops::Range;
 use crate::abi::ANSWER_WORDS;
 use crate::mapping::Mapping;
 
-/// The bytes of the arena. The longest call lends words of 41 thousand bytes, and a text of 71 thousand.
+/// The bytes of the arena. The longest calls lend words of 41 thousand bytes and a text of 71 thousand, or the words of
+/// a list, of a part and of a tree, which are 104 thousand.
 pub const ARENA_BYTES: usize = 114_688;
 /// The bytes of a word of a slice.
 const WORD: usize = size_of::<u32>();

@@ -1,6 +1,7 @@
 //! One call of the library beside the same call of the oracle, with all lent memory compared after it.
 
 mod files;
+mod stops;
 
 use std::io::{self, Write};
 use std::time::Instant;
@@ -14,6 +15,8 @@ use crate::lender::{Lender, Silence};
 use crate::mapping::Mapping;
 use crate::mismatch::{Deed, Inputs, Mismatch};
 use crate::trees::Policy;
+
+pub use stops::Stepped;
 
 /// What a comparison gives: the oracle's answer, with which the library agrees, or a `Mismatch` in writing.
 pub type Agreed = Result<Answer, String>;
@@ -51,6 +54,7 @@ impl Bench {
         let (calls, start) = (self.calls, Instant::now());
         (self.tally, self.judged) = (Tally::default(), 0);
         run(self)?;
+        assert!(self.calls > calls, "a group compares something");
         let seconds = start.elapsed().as_secs_f64();
         let judged = match self.judged {
             0 => String::new(),
@@ -164,23 +168,20 @@ impl Bench {
     pub fn build(&mut self, case: &str, rules: &[u32], rooms: [usize; 2]) -> Agreed {
         self.arena.take_back();
         let lent_rules = self.arena.lend("rules", rules);
-        let ([nodes, pool], answer) = self.lend_tree(rooms, |nodes, pool| oracle::build(rules, nodes, pool));
+        let Wanted { lent: [nodes, pool], answer, .. } =
+            self.lend_tree(rooms, |nodes, pool| oracle::build(rules, nodes, pool));
         let inputs = Inputs { rules: Some(rules), rooms: &rooms, ..Inputs::of(Call::Build, case) };
         self.compare(inputs, &[lent_rules, nodes, pool], answer)
     }
 
-    /// Lends rooms for nodes and for a pool, which are to hold what the oracle writes; and gives the oracle's answer.
-    fn lend_tree(
-        &mut self,
-        rooms: [usize; 2],
-        oracle: impl FnOnce(&mut [u32], &mut [u32]) -> Answer,
-    ) -> ([Lent; 2], Answer) {
+    /// Lends rooms for nodes and for a pool, which are to hold what the oracle writes.
+    fn lend_tree(&mut self, rooms: [usize; 2], oracle: impl FnOnce(&mut [u32], &mut [u32]) -> Answer) -> Wanted {
         let [mut nodes, mut pool] = rooms.map(unwritten_words);
         let lent = [self.arena.lend("nodes", &nodes), self.arena.lend("pool", &pool)];
         let answer = oracle(&mut nodes, &mut pool);
         self.arena.want(lent[0], &nodes);
         self.arena.want(lent[1], &pool);
-        (lent, answer)
+        Wanted { lent, answer, nodes, pool }
     }
 
     /// Counts so many headers that a second judge has searched for, for the group's line.
@@ -203,8 +204,10 @@ impl Bench {
         let oracle = answer_words(&answer);
         let lent_answer = self.arena.lend_answer();
         self.arena.want_answer(lent_answer, oracle);
-        let number = inputs.rule_count.unwrap_or(0);
-        let request = Request { call: inputs.call, slices, number, answer: lent_answer };
+        let given = [inputs.rule_count, inputs.most].into_iter().flatten();
+        let mut numbers = [0; 2];
+        numbers.iter_mut().zip(given).for_each(|(number, given)| *number = given);
+        let request = Request { call: inputs.call, slices, numbers, answer: lent_answer };
         let library = match self.lender.call(self.arena.lent_bytes(), &request) {
             Ok(()) if self.arena.is_as_wanted() => {
                 self.calls += 1;
@@ -218,6 +221,14 @@ impl Bench {
         };
         Err(Mismatch { group: &self.group, inputs, library, oracle }.to_string())
     }
+}
+
+/// Rooms for nodes and for a pool that are lent, what they must hold after the call, and the oracle's answer.
+struct Wanted {
+    lent: [Lent; 2],
+    answer: Answer,
+    nodes: Vec<u32>,
+    pool: Vec<u32>,
 }
 
 /// The call's inputs where they are a list and a tree.

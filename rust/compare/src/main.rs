@@ -24,9 +24,11 @@ mod lists;
 #[allow(unsafe_code)]
 mod mapping;
 mod mismatch;
+mod part_damages;
 mod placed;
 mod process;
 mod shared_ends;
+mod stops;
 mod text_damages;
 mod texts;
 mod tree_damages;

@@ -21,6 +21,8 @@ pub struct Inputs<'a> {
     pub case: &'a str,
     pub rules: Option<&'a [u32]>,
     pub rule_count: Option<u64>,
+    /// How many nodes are built at most.
+    pub most: Option<u64>,
     /// The node words and the pool.
     pub tree: Option<(&'a [u32], &'a [u32])>,
     pub header: Option<&'a [u32]>,
@@ -32,7 +34,8 @@ pub struct Inputs<'a> {
 impl<'a> Inputs<'a> {
     /// The call with nothing that it is given.
     pub fn of(call: Call, case: &'a str) -> Inputs<'a> {
-        Inputs { call, case, rules: None, rule_count: None, tree: None, header: None, text: None, rooms: &[] }
+        let (rules, rule_count, most, tree, header, text) = (None, None, None, None, None, None);
+        Inputs { call, case, rules, rule_count, most, tree, header, text, rooms: &[] }
     }
 }
 
@@ -60,6 +63,9 @@ impl Display for Mismatch<'_> {
         self.show_rules(to)?;
         if let Some(rule_count) = self.inputs.rule_count {
             writeln!(to, "  rules    {rule_count} by number")?;
+        }
+        if let Some(most) = self.inputs.most {
+            writeln!(to, "  most     {most} nodes")?;
         }
         if let Some((nodes, pool)) = self.inputs.tree {
             writeln!(to, "  nodes    {} words", nodes.len())?;

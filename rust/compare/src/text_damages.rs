@@ -14,9 +14,11 @@ pub struct DamagedText {
 /// Bytes that a text has, that stand beside its digits, or that look like a blank or an end.
 const BYTES: [u8; 19] = *b"\t\n\r\0 019/.:+-_,ae\x80\xFF";
 
-/// The fixed words of both files and of the program, and others that look like them.
-const WORDS: [&str; 15] =
-    ["rules", "rule", "tree", "cut", "leaf", "end", "head", "hit", "", "Rule", "CUT", "leaves", "en", "ends", "rul"];
+/// The fixed words of the files and of the program, and others that look like them.
+const WORDS: [&str; 17] = [
+    "rules", "rule", "tree", "part", "cut", "leaf", "end", "head", "hit", "", "Rule", "CUT", "leaves", "en", "ends",
+    "rul", "parts",
+];
 
 /// Numbers at which a test turns over: fields, octets, lengths, counts, ports, and words of 32 bits.
 const TURNING_NUMBERS: [u128; 31] = [

@@ -1,17 +1,19 @@
-//! Good texts of both files, and the words that they are read as.
+//! Good texts of all files, and the words that they are read as.
 
 use oracle::rule_file::{rule_line, rules_text};
-use oracle::tree_file::tree_text;
+use oracle::tree_file::{part_text, tree_text};
 
 use crate::draws::Draws;
 use crate::lists::{self, Rule, MANNERS};
 use crate::trees::{self, Policy};
 
-/// Which of the two files a text is read as.
+/// Which of the files a text is read as.
 #[derive(Clone, Copy, Debug, PartialEq, Eq)]
 pub enum File {
     Rules,
     Tree,
+    /// Of a build that was stopped.
+    Part,
 }
 
 /// A text, good or damaged.
@@ -34,6 +36,12 @@ impl Text {
     pub fn of_tree(policy: &Policy) -> Text {
         let text = tree_text(policy.rule_count(), &policy.nodes, &policy.pool).expect("the tree is spelt");
         Text { file: File::Tree, bytes: text.into(), needed: [policy.nodes.len(), policy.pool.len()] }
+    }
+
+    /// The text of this part, which is spelt.
+    pub fn of_part(part: &Policy) -> Text {
+        let text = part_text(part.rule_count(), &part.nodes, &part.pool).expect("the part is spelt");
+        Text { file: File::Part, bytes: text.into(), needed: [part.nodes.len(), part.pool.len()] }
     }
 
     /// The text with other bytes.

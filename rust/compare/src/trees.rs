@@ -5,7 +5,7 @@ use oracle::boxes::{Side, Sides};
 use oracle::build::{compile, LARGEST_ROOM};
 use oracle::builder::{self, Limits};
 use oracle::nodes::{MOST_ENTRIES, MOST_NODES};
-use oracle::parts::{Part, Places};
+use oracle::parts::{Part, Places, TreeWords};
 use oracle::rules::{self, judge_rules, rule_of};
 
 use crate::draws::Draws;
@@ -13,7 +13,7 @@ use crate::headers::{self, Header, LARGEST};
 use crate::lists::{wide_rules, List, Rule, EVERYTHING, WORKED_POLICY};
 
 /// The words of a list and of a tree, as the calls take them.
-#[derive(Clone)]
+#[derive(Clone, Debug, PartialEq, Eq)]
 pub struct Policy {
     pub rules: Vec<u32>,
     pub nodes: Vec<u32>,
@@ -34,6 +34,13 @@ impl Policy {
     /// How many nodes there are.
     pub fn node_count(&self) -> usize {
         self.nodes.len() / 3
+    }
+
+    /// The list, and a stop of the tree after so many nodes. The leaves' entries are in the pool.
+    pub fn stop_after(&self, node_count: usize) -> Policy {
+        let words = TreeWords { nodes: self.nodes.clone(), pool: self.pool.clone() };
+        let TreeWords { nodes, pool } = words.stop_after(node_count as u64);
+        Policy { rules: self.rules.clone(), nodes, pool }
     }
 }
 

@@ -62,6 +62,7 @@ impl Trials {
         self.tally = [0; 13];
         self.note.clear();
         run(self)?;
+        assert!(self.runs > runs, "a group compares something");
         let (runs, lines, seconds) = (self.runs - runs, self.lines - lines, start.elapsed().as_secs_f64());
         println!(" {runs} runs, {lines} lines in {seconds:.2} s: {}{}", tally_text(&self.tally), self.note);
         Ok(())

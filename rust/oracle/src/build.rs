@@ -23,6 +23,13 @@ pub struct Room {
     pub pool: usize,
 }
 
+impl Room {
+    /// What is lent, as far as the scope's limits let it be used.
+    pub fn of(nodes: &[u32], pool: &[u32]) -> Room {
+        Room { nodes: nodes.len().min(LARGEST_ROOM.nodes), pool: pool.len().min(LARGEST_ROOM.pool) }
+    }
+}
+
 /// The room of the scope's limits.
 pub const LARGEST_ROOM: Room = Room { nodes: MOST_NODES * NODE_WORDS, pool: MOST_ENTRIES };
 
@@ -30,41 +37,69 @@ pub const LARGEST_ROOM: Room = Room { nodes: MOST_NODES * NODE_WORDS, pool: MOST
 /// node in preorder that does not fit. A completed build gives `a`, the number of nodes, and `b`, of pool words; the
 /// rest of `nodes` and of `pool` is as found. So is all of both on a refusal.
 pub fn build(rules: &[u32], nodes: &mut [u32], pool: &mut [u32]) -> Answer {
-    let room = Room { nodes: nodes.len().min(LARGEST_ROOM.nodes), pool: pool.len().min(LARGEST_ROOM.pool) };
-    match compile(rules, room) {
+    match compile(rules, Room::of(nodes, pool)) {
         Err(refusal) => Answer::refused(refusal),
         Ok(words) => {
-            nodes[..words.nodes.len()].copy_from_slice(&words.nodes);
-            pool[..words.pool.len()].copy_from_slice(&words.pool);
-            Answer::completed((words.nodes.len() / NODE_WORDS) as u64, words.pool.len() as u64, 0)
+            words.put(nodes, pool);
+            Answer::completed(words.node_count(), words.pool.len() as u64, 0)
         }
     }
-}
-
-/// A box whose part is not begun yet.
-struct Open {
-    sides: Sides,
-    cuts_above: u64,
-    /// Where the number of the part's first node goes, once it is known. The left part's is written nowhere.
-    right_child_at: Option<usize>,
 }
 
 /// The words of the list's tree; otherwise 1, 2, 11 or 4. It stops at the first node that does not fit, however large
 /// the tree would be.
 pub fn compile(rules: &[u32], room: Room) -> Result<TreeWords, Refusal> {
     let boxes: Vec<Sides> = judge_rules(rules)?.iter().map(box_of).collect();
-    let mut words = TreeWords::default();
-    let mut open = vec![Open { sides: root_box(), cuts_above: 0, right_child_at: None }];
-    while let Some(Open { sides, cuts_above, right_child_at }) = open.pop() {
-        let (own, own_at) = (words.nodes.len() / NODE_WORDS, words.nodes.len());
+    let mut growth = Growth::from_nothing();
+    growth.grow(&boxes, room, u64::MAX)?;
+    Ok(growth.words)
+}
+
+/// A box whose part is not begun yet.
+pub struct Open {
+    pub sides: Sides,
+    pub cuts_above: u64,
+    /// Where the number of the part's first node goes, once it is known. The left part's is written nowhere.
+    pub right_child_at: Option<usize>,
+}
+
+/// A tree that is being built.
+pub struct Growth {
+    /// What stands of it, with 0 for each right child that is not begun.
+    pub words: TreeWords,
+    /// What is not begun. The last of them comes next.
+    pub open: Vec<Open>,
+}
+
+impl Growth {
+    /// Nothing stands yet, and the root is open.
+    pub fn from_nothing() -> Growth {
+        let root = Open { sides: root_box(), cuts_above: 0, right_child_at: None };
+        Growth { words: TreeWords::default(), open: vec![root] }
+    }
+
+    /// Builds on until so many nodes stand, or nothing is open; otherwise 4 for the first node that does not fit.
+    pub fn grow(&mut self, boxes: &[Sides], room: Room, until: u64) -> Result<(), Refusal> {
+        while self.words.node_count() < until {
+            let Some(next) = self.open.pop() else { break };
+            self.add_node(next, boxes, room)?;
+        }
+        Ok(())
+    }
+
+    /// The first node of the part of this box: a leaf, or a cut whose two parts are then open.
+    fn add_node(&mut self, own: Open, boxes: &[Sides], room: Room) -> Result<(), Refusal> {
+        let Open { sides, cuts_above, right_child_at } = own;
+        let words = &mut self.words;
+        let own_at = words.nodes.len();
         if own_at + NODE_WORDS > room.nodes {
             return Err(Refusal::OutputShort { needed: own_at + NODE_WORDS });
         }
         if let Some(at) = right_child_at {
-            words.nodes[at] = own as u32;
+            words.nodes[at] = words.node_count() as u32;
         }
         let here: Vec<usize> = (0..boxes.len()).filter(|&rule| meet(&boxes[rule], &sides)).collect();
-        match cut_of(&boxes, &here, &sides, cuts_above) {
+        match cut_of(boxes, &here, &sides, cuts_above) {
             None => {
                 let start = words.pool.len();
                 if start + here.len() > room.pool {
@@ -77,12 +112,12 @@ pub fn compile(rules: &[u32], room: Room) -> Result<TreeWords, Refusal> {
                 words.nodes.extend([field as u32, value, 0]);
                 let part = |sides, right_child_at| Open { sides, cuts_above: cuts_above + 1, right_child_at };
                 // The left part is taken first, with all that hangs from it.
-                open.push(part(right_of(sides, field, value), Some(own_at + 2)));
-                open.push(part(left_of(sides, field, value), None));
+                self.open.push(part(right_of(sides, field, value), Some(own_at + 2)));
+                self.open.push(part(left_of(sides, field, value), None));
             }
         }
+        Ok(())
     }
-    Ok(words)
 }
 
 /// Where this box is cut, these rules meeting it: the field and the value. None makes it a leaf.

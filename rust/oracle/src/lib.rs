@@ -12,8 +12,10 @@
 //! - [`tree_first`]: the first number of them;
 //! - [`tree_check`]: is the tree well formed, and does each leaf list every rule that can match there;
 //! - [`build()`]: the one tree that is compiled from a list;
+//! - [`build_some`] and [`build_on`]: the same, stopped after some nodes, and going on from there;
 //! - [`rules_write`] and [`rules_read`]: a list as a text file, and back;
-//! - [`tree_write`] and [`tree_read`]: a tree as a text file, and back.
+//! - [`tree_write`] and [`tree_read`]: a tree as a text file, and back;
+//! - [`part_write`] and [`part_read`]: a build that was stopped as a text file, and back.
 //!
 //! And [`program`] is the program: from its two files and its standard input, what it writes.
 //!
@@ -38,6 +40,7 @@ pub mod rule_file;
 pub mod rules;
 pub mod scan;
 pub mod spelt;
+pub mod stops;
 pub mod text;
 pub mod tree_check;
 pub mod tree_file;
@@ -50,6 +53,7 @@ pub use program::program;
 pub use rule_file::{rules_read, rules_write};
 pub use rules::rule_check;
 pub use scan::{scan_all, scan_first};
+pub use stops::{build_on, build_some};
 pub use tree_check::tree_check;
-pub use tree_file::{tree_read, tree_write};
+pub use tree_file::{part_read, part_write, tree_read, tree_write};
 pub use tree_search::{tree_all, tree_first};

@@ -1,7 +1,7 @@
 //! A tree as parts that hold each other, and the words that it is written as.
 
 use crate::boxes::{left_of, right_of, root_box, Sides};
-use crate::nodes::LEAF;
+use crate::nodes::{LEAF, NODE_WORDS};
 
 /// A part of a tree: one node and all that hangs from it.
 #[derive(Clone, Debug)]
@@ -11,10 +11,38 @@ pub enum Part {
 }
 
 /// The words of a tree.
-#[derive(Clone, Debug, Default)]
+#[derive(Clone, Debug, Default, PartialEq, Eq)]
 pub struct TreeWords {
     pub nodes: Vec<u32>,
     pub pool: Vec<u32>,
+}
+
+impl TreeWords {
+    /// How many nodes there are.
+    pub fn node_count(&self) -> u64 {
+        (self.nodes.len() / NODE_WORDS) as u64
+    }
+
+    /// Writes the words to the start of both, which have room for them.
+    pub fn put(&self, nodes: &mut [u32], pool: &mut [u32]) {
+        nodes[..self.nodes.len()].copy_from_slice(&self.nodes);
+        pool[..self.pool.len()].copy_from_slice(&self.pool);
+    }
+
+    /// What request d) calls a stop after so many nodes of this whole tree: its first nodes, with 0 for each right
+    /// child that is none of them, and the entries of the leaves among them.
+    pub fn stop_after(&self, node_count: u64) -> TreeWords {
+        let mut stop = TreeWords::default();
+        for node in self.nodes.chunks_exact(NODE_WORDS).take(node_count as usize) {
+            let [first, second, third] = [node[0], node[1], node[2]];
+            if first == LEAF {
+                stop.pool.extend(&self.pool[second as usize..][..third as usize]);
+            }
+            let is_open = first != LEAF && u64::from(third) >= node_count;
+            stop.nodes.extend([first, second, if is_open { 0 } else { third }]);
+        }
+        stop
+    }
 }
 
 /// A cut, where it stands.

@@ -3,7 +3,7 @@
 use crate::answer::{Answer, Refusal};
 use crate::boxes::{box_of, left_of, may_cut, meet, right_of, root_box, Sides};
 use crate::nodes::{entries_of, judge_tree_words, node_at, Node};
-use crate::parts::{Part, Places};
+use crate::parts::{Part, PlacedLeaf, Places};
 use crate::rules::{judge_rules, Rule};
 use crate::spelt::judge_spelt;
 
@@ -24,7 +24,7 @@ fn judge_tree(rules: &[u32], nodes: &[u32], pool: &[u32]) -> Result<Places, Refu
     let node_count = judge_tree_words(nodes, pool)?;
     judge_spelt(nodes, node_count, pool, list.len() as u64)?;
     let places = Walk { nodes, node_count, pool }.whole_tree()?.places();
-    judge_leaves(&list, &places)?;
+    judge_leaves(&list, &places.leaves)?;
     Ok(places)
 }
 
@@ -87,8 +87,8 @@ impl Walk<'_> {
 }
 
 /// By rising leaf: does it list every rule whose box meets its box? Otherwise 8, with the lowest rule that it lacks.
-fn judge_leaves(list: &[Rule], places: &Places) -> Result<(), Refusal> {
-    for leaf in &places.leaves {
+pub fn judge_leaves(list: &[Rule], leaves: &[PlacedLeaf]) -> Result<(), Refusal> {
+    for leaf in leaves {
         for (number, rule) in (0_u32..).zip(list) {
             if meet(&box_of(rule), &leaf.sides) && !leaf.entries.contains(&number) {
                 return Err(Refusal::LeafLacksRule { node: leaf.node, rule: u64::from(number) });

@@ -1,4 +1,5 @@
-//! The tree file: a line `tree`, a line `cut` or `leaf` for each node, and the end line.
+//! The tree file: a line `tree`, a line `cut` or `leaf` for each node, and the end line. And the part file, which has
+//! the line `part` in its place.
 
 use crate::answer::{Answer, Refusal};
 use crate::nodes::{entries_of, judge_tree_words, node_at, Node, LEAF, MOST_ENTRIES, MOST_NODES, NODE_WORDS};
@@ -7,20 +8,39 @@ use crate::rules::MOST_RULES;
 use crate::spelt::judge_spelt;
 use crate::text::{numbers, put_text, text_of, Lines};
 
+/// The first word of a tree file.
+const TREE: &str = "tree";
+/// The first word of a part file.
+const PART: &str = "part";
+
 /// Writes the tree for so many rules as a text: 1, 5, *spelt*, then 4. It need not be well formed. `put_text` says what
 /// a completed writer gives.
 pub fn tree_write(rule_count: u64, nodes: &[u32], pool: &[u32], text: &mut [u8]) -> Answer {
     put_text(tree_text(rule_count, nodes, pool), text)
 }
 
+/// Writes the part of a tree for so many rules, as `tree_write` writes a tree.
+pub fn part_write(rule_count: u64, nodes: &[u32], pool: &[u32], text: &mut [u8]) -> Answer {
+    put_text(part_text(rule_count, nodes, pool), text)
+}
+
 /// The text of a tree that is spelt; otherwise refusal 1, 5, 6 or 7.
 pub fn tree_text(rule_count: u64, nodes: &[u32], pool: &[u32]) -> Result<String, Refusal> {
+    text_with(TREE, rule_count, nodes, pool)
+}
+
+/// The text of a part that is spelt; otherwise refusal 1, 5, 6 or 7.
+pub fn part_text(rule_count: u64, nodes: &[u32], pool: &[u32]) -> Result<String, Refusal> {
+    text_with(PART, rule_count, nodes, pool)
+}
+
+fn text_with(word: &str, rule_count: u64, nodes: &[u32], pool: &[u32]) -> Result<String, Refusal> {
     if rule_count > MOST_RULES as u64 {
         return Err(Refusal::RuleWords);
     }
     let node_count = judge_tree_words(nodes, pool)?;
     judge_spelt(nodes, node_count, pool, rule_count)?;
-    let mut lines = vec![format!("tree\t{rule_count}\t{node_count}\t{}", pool.len())];
+    let mut lines = vec![format!("{word}\t{rule_count}\t{node_count}\t{}", pool.len())];
     for own in 0..node_count {
         lines.push(match node_at(nodes, own)? {
             Node::Cut { field, value, right } => format!("cut\t{own}\t{field}\t{value}\t{right}"),
@@ -38,7 +58,16 @@ pub fn tree_text(rule_count: u64, nodes: &[u32], pool: &[u32]) -> Result<String,
 /// before the pool. A completed reader gives `a`, the number of rules, `b`, of nodes, and `c`, of pool words; the rest
 /// of `nodes` and of `pool` is as found. So is all of both on a refusal.
 pub fn tree_read(text: &[u8], nodes: &mut [u32], pool: &mut [u32]) -> Answer {
-    let (counts, words) = match read_tree(text) {
+    read_with(TREE, text, nodes, pool)
+}
+
+/// Reads a part from a text, as `tree_read` reads a tree. Each of the two readers takes its own file only.
+pub fn part_read(text: &[u8], nodes: &mut [u32], pool: &mut [u32]) -> Answer {
+    read_with(PART, text, nodes, pool)
+}
+
+fn read_with(word: &str, text: &[u8], nodes: &mut [u32], pool: &mut [u32]) -> Answer {
+    let (counts, words) = match read_words(word, text) {
         Err(refusal) => return Answer::refused(refusal),
         Ok(tree) => tree,
     };
@@ -48,8 +77,7 @@ pub fn tree_read(text: &[u8], nodes: &mut [u32], pool: &mut [u32]) -> Answer {
     if words.pool.len() > pool.len() {
         return Answer::refused(Refusal::PoolShort { needed: words.pool.len() });
     }
-    nodes[..words.nodes.len()].copy_from_slice(&words.nodes);
-    pool[..words.pool.len()].copy_from_slice(&words.pool);
+    words.put(nodes, pool);
     Answer::completed(counts.rules as u64, counts.nodes as u64, counts.entries as u64)
 }
 
@@ -61,10 +89,10 @@ struct Counts {
     entries: usize,
 }
 
-/// The tree that the text is; otherwise 9 or 10.
-fn read_tree(text: &[u8]) -> Result<(Counts, TreeWords), Refusal> {
+/// The tree or part that the text is, which begins with this word; otherwise 9 or 10.
+fn read_words(word: &str, text: &[u8]) -> Result<(Counts, TreeWords), Refusal> {
     let mut lines = Lines::of(text);
-    let counts = lines.next(read_counts)?;
+    let counts = lines.next(|fields| read_counts(word, fields))?;
     let mut words = TreeWords::default();
     for _ in 0..counts.nodes {
         lines.next(|fields| read_node(fields, counts, &mut words))?;
@@ -73,8 +101,11 @@ fn read_tree(text: &[u8]) -> Result<(Counts, TreeWords), Refusal> {
     Ok((counts, words))
 }
 
-fn read_counts(fields: &[&[u8]]) -> Option<Counts> {
-    let [b"tree", rest @ ..] = fields else { return None };
+fn read_counts(word: &str, fields: &[&[u8]]) -> Option<Counts> {
+    let (first, rest) = fields.split_first()?;
+    if *first != word.as_bytes() {
+        return None;
+    }
     let [rules, nodes, entries] = numbers(rest)?[..] else { return None };
     let counts = Counts { rules: rules as usize, nodes: nodes as usize, entries: entries as usize };
     let within =

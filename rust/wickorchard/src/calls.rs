@@ -2,7 +2,7 @@
 //!
 //! **The two tree searches answer by the tree as it is.** By a tree that is wrong for the rules they may give a wrong
 //! answer without a refusal. Search only a tree that [`tree_check`] has accepted or [`build`] has built, with the same
-//! rules, nodes and pool, unchanged since. [`Policy`](crate::Policy) sees to that.
+//! rules, nodes and pool, unchanged since. [`Policy`](crate::Policy) sees to that. A [`Part`] is no tree yet.
 //!
 //! Words are numbers in this machine's own order, as `u32::from(Ipv4Addr)` gives them: `[a, b, c, d]` is
 //! `u32::from_be_bytes([a, b, c, d])`. [`Header::words`](crate::Header::words) makes the words of a header.
@@ -16,6 +16,23 @@ use crate::refusal::Refusal;
 pub struct Tree<'a> {
     pub nodes: &'a [u32],
     pub pool: &'a [u32],
+}
+
+/// What stands of a tree whose build was stopped: the words of its first nodes, with 0 for each right child that is not
+/// begun, and the entries of the leaves among them. It is no tree, so no search takes it; [`build_on`] goes on from it.
+#[derive(Clone, Copy, Debug)]
+pub struct Part<'a> {
+    pub nodes: &'a [u32],
+    pub pool: &'a [u32],
+}
+
+/// What a build that may stop has come to.
+#[derive(Clone, Copy, Debug)]
+pub enum Built<'a> {
+    /// The whole tree. [`tree_check`] accepts it for its list.
+    Whole(Tree<'a>),
+    /// There are more nodes to build.
+    Stopped(Part<'a>),
 }
 
 /// What a tree search found, and what it took.
@@ -37,10 +54,10 @@ pub struct Figures {
     pub longest_leaf: u64,
 }
 
-/// What a tree file holds.
+/// What a tree file or a part file holds.
 #[derive(Clone, Copy, Debug, PartialEq, Eq)]
 pub struct TreeCounts {
-    /// The rules that the tree is for.
+    /// The rules that the tree or the part is for.
     pub rules: usize,
     pub nodes: usize,
     /// The words of the pool.
@@ -163,6 +180,62 @@ pub fn build<'a>(rules: &[u32], nodes: &'a mut [u32], pool: &'a mut [u32]) -> Re
     Ok(Tree { nodes: &nodes[..node_count as usize * NODE_WORDS], pool: &pool[..pool_words as usize] })
 }
 
+/// As [`build`], but stops after `most` nodes where the tree has more; 0 counts as 1. Only these nodes must fit: 1, 2,
+/// 11, 4.
+///
+/// ```
+/// use wickorchard::calls::{build_on, build_some, Built};
+///
+/// // Nine rules, for destination ports 0 to 8. The first node is a cut, and none of its parts is begun.
+/// let rules: Vec<u32> = (0..9).flat_map(|port| [0, 0, 0, 0, 0, 65_535, port, port, 6, 6]).collect();
+/// let (mut nodes, mut pool) = ([0; 30], [0; 30]);
+/// let Built::Stopped(part) = build_some(&rules, 1, &mut nodes, &mut pool)? else { panic!("two nodes are left") };
+/// assert_eq!((part.nodes, part.pool), (&[3, 4, 0][..], &[][..]));
+///
+/// // Two nodes more, and it is the tree that `build` gives at once.
+/// let (mut nodes, mut pool) = ([0; 30], [0; 30]);
+/// let Built::Whole(tree) = build_on(&rules, 9, part, 2, &mut nodes, &mut pool)? else { panic!("that is all") };
+/// assert_eq!(tree.nodes, [3, 4, 2, 5, 0, 5, 5, 5, 4]);
+/// # Ok::<(), wickorchard::Refusal>(())
+/// ```
+pub fn build_some<'a>(
+    rules: &[u32],
+    most: u64,
+    nodes: &'a mut [u32],
+    pool: &'a mut [u32],
+) -> Result<Built<'a>, Refusal> {
+    let counts = answered(|answer| unsafe {
+        let (r, n, p) = (rules.len() as u64, nodes.len() as u64, pool.len() as u64);
+        raw::wick_build_some(rules.as_ptr(), r, most, nodes.as_mut_ptr(), n, pool.as_mut_ptr(), p, answer)
+    })?;
+    Ok(built(counts, nodes, pool))
+}
+
+/// Goes on with a part, which was built for a list of `rule_count` rules, by `most` nodes; 0 counts as 1. Writes all
+/// nodes and entries to the front of `nodes` and of `pool`, those of the part included, and gives them: 1, 2, 11 for
+/// the list, 5 for the part's words, 6 at node 0 where `rule_count` is not the list's, 6 or 7 at the first fault of the
+/// part, 8 where one of its leaves lacks a rule, then 4.
+///
+/// However often it stops, with the same list and the same room a build ends in the words, or in the refusal, of
+/// [`build`]. A part that others have made is judged too, and what is whole in the end is accepted by [`tree_check`].
+pub fn build_on<'a>(
+    rules: &[u32],
+    rule_count: u64,
+    part: Part,
+    most: u64,
+    nodes: &'a mut [u32],
+    pool: &'a mut [u32],
+) -> Result<Built<'a>, Refusal> {
+    let counts = answered(|answer| unsafe {
+        let (r, n, p) = (rules.len() as u64, nodes.len() as u64, pool.len() as u64);
+        let (part_nodes, part_n) = (part.nodes.as_ptr(), part.nodes.len() as u64);
+        let (part_pool, part_p) = (part.pool.as_ptr(), part.pool.len() as u64);
+        let (rules, nodes, pool) = (rules.as_ptr(), nodes.as_mut_ptr(), pool.as_mut_ptr());
+        raw::wick_build_on(rules, r, rule_count, part_nodes, part_n, part_pool, part_p, most, nodes, n, pool, p, answer)
+    })?;
+    Ok(built(counts, nodes, pool))
+}
+
 /// Writes the list as a rules file to the front of `text`, and gives the file's bytes: 1, 2, 11, 4.
 pub fn rules_write<'a>(rules: &[u32], text: &'a mut [u8]) -> Result<&'a [u8], Refusal> {
     let [bytes, ..] = answered(|answer| unsafe {
@@ -200,6 +273,37 @@ pub fn tree_read(text: &[u8], nodes: &mut [u32], pool: &mut [u32]) -> Result<Tre
     })?;
     let [rules, nodes, pool] = counts.map(|count| count as usize);
     Ok(TreeCounts { rules, nodes, pool })
+}
+
+/// Writes the part, which is for so many rules, as a part file to the front of `text`, and gives the file's bytes: 1,
+/// 5, 6 or 7, 4. It is the tree file with another first word.
+pub fn part_write<'a>(rule_count: u64, part: Part, text: &'a mut [u8]) -> Result<&'a [u8], Refusal> {
+    let Part { nodes, pool } = part;
+    let [bytes, ..] = answered(|answer| unsafe {
+        let (n, p, t) = (nodes.len() as u64, pool.len() as u64, text.len() as u64);
+        raw::wick_part_write(rule_count, nodes.as_ptr(), n, pool.as_ptr(), p, text.as_mut_ptr(), t, answer)
+    })?;
+    Ok(&text[..bytes as usize])
+}
+
+/// Reads a part file as [`tree_read`] reads a tree file; each takes its own only: 9 or 10, 4. [`build_on`] judges what
+/// it has read.
+pub fn part_read(text: &[u8], nodes: &mut [u32], pool: &mut [u32]) -> Result<TreeCounts, Refusal> {
+    let counts = answered(|answer| unsafe {
+        let (t, n, p) = (text.len() as u64, nodes.len() as u64, pool.len() as u64);
+        raw::wick_part_read(text.as_ptr(), t, nodes.as_mut_ptr(), n, pool.as_mut_ptr(), p, answer)
+    })?;
+    let [rules, nodes, pool] = counts.map(|count| count as usize);
+    Ok(TreeCounts { rules, nodes, pool })
+}
+
+/// What a build that may stop has written: so many nodes and pool words, and 1 where they are the whole tree.
+fn built<'a>([node_count, pool_words, whole]: [u64; 3], nodes: &'a [u32], pool: &'a [u32]) -> Built<'a> {
+    let (nodes, pool) = (&nodes[..node_count as usize * NODE_WORDS], &pool[..pool_words as usize]);
+    match whole {
+        0 => Built::Stopped(Part { nodes, pool }),
+        _ => Built::Whole(Tree { nodes, pool }),
+    }
 }
 
 /// What a first-match found: its value is the rule's number + 1, or 0 where none matches.

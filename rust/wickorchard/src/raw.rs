@@ -70,6 +70,31 @@ extern "C" {
         pool_len: u64,
         answer: *mut Answer,
     );
+    pub fn wick_build_some(
+        rules: *const u32,
+        rules_len: u64,
+        most: u64,
+        nodes: *mut u32,
+        nodes_len: u64,
+        pool: *mut u32,
+        pool_len: u64,
+        answer: *mut Answer,
+    );
+    pub fn wick_build_on(
+        rules: *const u32,
+        rules_len: u64,
+        rule_count: u64,
+        part_nodes: *const u32,
+        part_nodes_len: u64,
+        part_pool: *const u32,
+        part_pool_len: u64,
+        most: u64,
+        nodes: *mut u32,
+        nodes_len: u64,
+        pool: *mut u32,
+        pool_len: u64,
+        answer: *mut Answer,
+    );
     pub fn wick_rules_write(rules: *const u32, rules_len: u64, text: *mut u8, text_len: u64, answer: *mut Answer);
     pub fn wick_rules_read(text: *const u8, text_len: u64, rules: *mut u32, rules_len: u64, answer: *mut Answer);
     pub fn wick_tree_write(
@@ -83,6 +108,25 @@ extern "C" {
         answer: *mut Answer,
     );
     pub fn wick_tree_read(
+        text: *const u8,
+        text_len: u64,
+        nodes: *mut u32,
+        nodes_len: u64,
+        pool: *mut u32,
+        pool_len: u64,
+        answer: *mut Answer,
+    );
+    pub fn wick_part_write(
+        rule_count: u64,
+        nodes: *const u32,
+        nodes_len: u64,
+        pool: *const u32,
+        pool_len: u64,
+        text: *mut u8,
+        text_len: u64,
+        answer: *mut Answer,
+    );
+    pub fn wick_part_read(
         text: *const u8,
         text_len: u64,
         nodes: *mut u32,

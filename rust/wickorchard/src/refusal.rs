@@ -8,7 +8,8 @@ use crate::raw::Answer;
 /// What is wrong, with its place and, where it has one, its extra.
 #[derive(Clone, Copy, Debug, PartialEq, Eq)]
 pub enum Refusal {
-    /// 1: the rule words are not a multiple of ten, or over 5,120; or a tree to write is for more than 512 rules.
+    /// 1: the rule words are not a multiple of ten, or over 5,120; or a tree or a part to write is for more than 512
+    /// rules.
     RuleWordsWrong,
     /// 2: a rule is not good. This is the lowest such rule.
     RuleNotGood { rule: u64 },
@@ -22,7 +23,8 @@ pub enum Refusal {
     PoolShort { needed: u64 },
     /// 5: the node words are none, not a multiple of three, or over 6,141; or the pool is over 4,096.
     TreeWordsWrong,
-    /// 6: a node is wrong, missing or left over.
+    /// 6: a node is wrong, missing or left over; or a part is for another number of rules than the list has, and the
+    /// node is 0.
     NodeWrong { node: u64 },
     /// 7: a leaf's start, count or entries are wrong.
     LeafWrong { node: u64 },

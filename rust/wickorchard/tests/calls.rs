@@ -1,7 +1,7 @@
 //! Each call on the worked policy and on what it refuses, beside the same call of the oracle.
 
 use oracle::Answer;
-use wickorchard::calls::{self, Counted, Figures, Tree, TreeCounts};
+use wickorchard::calls::{self, Built, Counted, Figures, Part, Tree, TreeCounts};
 use wickorchard::limits::MOST_RULES;
 use wickorchard::{Header, Policy, Refusal};
 
@@ -146,6 +146,74 @@ fn the_compiler() {
     }
 }
 
+/// The words that a build has come to, and whether they are whole.
+fn come(built: Built) -> (Vec<u32>, Vec<u32>, bool) {
+    match built {
+        Built::Whole(Tree { nodes, pool }) => (nodes.to_vec(), pool.to_vec(), true),
+        Built::Stopped(Part { nodes, pool }) => (nodes.to_vec(), pool.to_vec(), false),
+    }
+}
+
+#[test]
+fn the_compiler_that_stops() {
+    let rooms = [[0, 0], [3, 2], [9, 20], [100, 20], [7_000, 5_000]];
+    let counts = |built: Built| {
+        let (nodes, pool, whole) = come(built);
+        [nodes.len() as u64 / 3, pool.len() as u64, u64::from(whole)]
+    };
+    for rules in lists().into_iter().chain([ports(9), ports(40), wide_rules(60)]) {
+        for most in [0, 1, 2, 7, u64::MAX] {
+            for [node_room, pool_room] in rooms {
+                let [mut nodes, mut wanted_nodes] = [vec![7; node_room], vec![7; node_room]];
+                let [mut pool, mut wanted_pool] = [vec![7; pool_room], vec![7; pool_room]];
+                let answer = oracle::build_some(&rules, most, &mut wanted_nodes, &mut wanted_pool);
+                expect(calls::build_some(&rules, most, &mut nodes, &mut pool), answer, counts);
+                assert_eq!((nodes, pool), (wanted_nodes, wanted_pool));
+            }
+        }
+    }
+    // Parts of the worked policy's tree, and trees that are refused; with the right number of rules, and others.
+    let parts = (1..=5).map(|count| {
+        let words = oracle::parts::TreeWords { nodes: NODES.to_vec(), pool: POOL.to_vec() }.stop_after(count);
+        (words.nodes, words.pool)
+    });
+    for (part_nodes, part_pool) in parts.chain(trees()) {
+        let part = Part { nodes: &part_nodes, pool: &part_pool };
+        for (rules, told) in lists().into_iter().flat_map(|list| [(list.clone(), 3), (list.clone(), 513), (list, 0)]) {
+            for [node_room, pool_room] in rooms {
+                let [mut nodes, mut wanted_nodes] = [vec![7; node_room], vec![7; node_room]];
+                let [mut pool, mut wanted_pool] = [vec![7; pool_room], vec![7; pool_room]];
+                let (n, p) = (&mut wanted_nodes, &mut wanted_pool);
+                let answer = oracle::build_on(&rules, told, &part_nodes, &part_pool, 1, n, p);
+                expect(calls::build_on(&rules, told, part, 1, &mut nodes, &mut pool), answer, counts);
+                assert_eq!((nodes, pool), (wanted_nodes, wanted_pool));
+            }
+        }
+    }
+}
+
+#[test]
+fn a_build_that_is_kept_as_a_file_ends_in_the_tree_of_one_never_stopped() {
+    let rules = ports(40);
+    let [mut nodes, mut pool] = [vec![0; 600], vec![0; 600]];
+    let [mut part_nodes, mut part_pool] = [vec![0; 600], vec![0; 600]];
+    let mut text = vec![0; 65_536];
+    let mut at = come(calls::build_some(&rules, 3, &mut nodes, &mut pool).expect("it fits"));
+    let mut stops = 0;
+    while !at.2 {
+        let part = Part { nodes: &at.0, pool: &at.1 };
+        let file = calls::part_write(41, part, &mut text).expect("the part is spelt");
+        assert!(calls::tree_read(file, &mut nodes, &mut pool) == Err(Refusal::LineWrong { line: 1 }));
+        let counts = calls::part_read(file, &mut part_nodes, &mut part_pool).expect("the file is whole");
+        assert_eq!(counts, TreeCounts { rules: 41, nodes: at.0.len() / 3, pool: at.1.len() });
+        let part = Part { nodes: &part_nodes[..3 * counts.nodes], pool: &part_pool[..counts.pool] };
+        at = come(calls::build_on(&rules, counts.rules as u64, part, 3, &mut nodes, &mut pool).expect("it fits"));
+        stops += 1;
+    }
+    let tree = calls::build(&rules, &mut nodes, &mut pool).expect("it fits");
+    assert_eq!((&at.0[..], &at.1[..], stops > 2), (tree.nodes, tree.pool, true));
+}
+
 #[test]
 fn a_policy_that_is_compiled_answers_as_its_list() {
     let mut text = vec![0; 65_536];
@@ -183,6 +251,10 @@ fn the_writers() {
                 let ours = calls::tree_write(rule_count, Tree { nodes, pool }, &mut text);
                 expect(ours, answer, |bytes| [bytes.len() as u64, 0, 0]);
                 assert_eq!(text, wanted);
+                let answer = oracle::part_write(rule_count, nodes, pool, &mut wanted);
+                let ours = calls::part_write(rule_count, Part { nodes, pool }, &mut text);
+                expect(ours, answer, |bytes| [bytes.len() as u64, 0, 0]);
+                assert_eq!(text, wanted);
             }
         }
     }
@@ -199,14 +271,17 @@ fn the_readers() {
             assert_eq!(words, wanted);
         }
     }
-    for text in [TREE_FILE, &TREE_FILE[1..], &TREE_FILE[..TREE_FILE.len() - 1], RULES_FILE, b""] {
+    let part = [b"part", &TREE_FILE[4..]].concat();
+    for text in [TREE_FILE, &TREE_FILE[1..], &TREE_FILE[..TREE_FILE.len() - 1], RULES_FILE, b"", &part, &part[..30]] {
         for [node_room, pool_room] in [[0, 0], [14, 5], [15, 4], [15, 5], [20, 9]] {
             let [mut nodes, mut wanted_nodes] = [vec![7; node_room], vec![7; node_room]];
             let [mut pool, mut wanted_pool] = [vec![7; pool_room], vec![7; pool_room]];
             let answer = oracle::tree_read(text, &mut wanted_nodes, &mut wanted_pool);
-            expect(calls::tree_read(text, &mut nodes, &mut pool), answer, |TreeCounts { rules, nodes, pool }| {
-                [rules, nodes, pool].map(|count| count as u64)
-            });
+            let counts = |TreeCounts { rules, nodes, pool }| [rules, nodes, pool].map(|count| count as u64);
+            expect(calls::tree_read(text, &mut nodes, &mut pool), answer, counts);
+            assert_eq!((&nodes, &pool), (&wanted_nodes, &wanted_pool));
+            let answer = oracle::part_read(text, &mut wanted_nodes, &mut wanted_pool);
+            expect(calls::part_read(text, &mut nodes, &mut pool), answer, counts);
             assert_eq!((nodes, pool), (wanted_nodes, wanted_pool));
         }
     }

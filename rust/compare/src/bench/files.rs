@@ -1,6 +1,8 @@
-//! The file calls: a list and a tree, written as texts and read from them.
+//! The file calls: a list, a tree and a part, written as texts and read from them.
 
-use super::{Agreed, Bench};
+use oracle::Answer;
+
+use super::{Agreed, Bench, Wanted};
 use crate::abi::Call;
 use crate::arena::{unwritten_text, unwritten_words};
 use crate::mismatch::Inputs;
@@ -39,25 +41,56 @@ impl Bench {
 
     /// The policy's rules are of no account: their number is told.
     pub fn tree_write(&mut self, case: &str, rule_count: u64, policy: &Policy, room: usize) -> Agreed {
+        self.write(Call::TreeWrite, oracle::tree_write, case, rule_count, policy, room)
+    }
+
+    pub fn part_write(&mut self, case: &str, rule_count: u64, part: &Policy, room: usize) -> Agreed {
+        self.write(Call::PartWrite, oracle::part_write, case, rule_count, part, room)
+    }
+
+    fn write(
+        &mut self,
+        call: Call,
+        oracle: fn(u64, &[u32], &[u32], &mut [u8]) -> Answer,
+        case: &str,
+        rule_count: u64,
+        policy: &Policy,
+        room: usize,
+    ) -> Agreed {
         let Policy { nodes, pool, .. } = policy;
         self.arena.take_back();
         let lent_nodes = self.arena.lend("nodes", nodes);
         let lent_pool = self.arena.lend("pool", pool);
         let mut text = unwritten_text(room);
         let lent_text = self.arena.lend_text(&text);
-        let answer = oracle::tree_write(rule_count, nodes, pool, &mut text);
+        let answer = oracle(rule_count, nodes, pool, &mut text);
         self.arena.want_text(lent_text, &text);
-        let named = Inputs::of(Call::TreeWrite, case);
+        let named = Inputs::of(call, case);
         let inputs = Inputs { rule_count: Some(rule_count), tree: Some((nodes, pool)), rooms: &[room], ..named };
         self.compare(inputs, &[lent_nodes, lent_pool, lent_text], answer)
     }
 
     /// The rooms are those of the nodes and of the pool.
     pub fn tree_read(&mut self, case: &str, text: &[u8], rooms: [usize; 2]) -> Agreed {
+        self.read_words(Call::TreeRead, oracle::tree_read, case, text, rooms)
+    }
+
+    pub fn part_read(&mut self, case: &str, text: &[u8], rooms: [usize; 2]) -> Agreed {
+        self.read_words(Call::PartRead, oracle::part_read, case, text, rooms)
+    }
+
+    fn read_words(
+        &mut self,
+        call: Call,
+        oracle: fn(&[u8], &mut [u32], &mut [u32]) -> Answer,
+        case: &str,
+        text: &[u8],
+        rooms: [usize; 2],
+    ) -> Agreed {
         self.arena.take_back();
         let lent_text = self.arena.lend_text(text);
-        let ([nodes, pool], answer) = self.lend_tree(rooms, |nodes, pool| oracle::tree_read(text, nodes, pool));
-        let inputs = Inputs { text: Some(text), rooms: &rooms, ..Inputs::of(Call::TreeRead, case) };
+        let Wanted { lent: [nodes, pool], answer, .. } = self.lend_tree(rooms, |nodes, pool| oracle(text, nodes, pool));
+        let inputs = Inputs { text: Some(text), rooms: &rooms, ..Inputs::of(call, case) };
         self.compare(inputs, &[lent_text, nodes, pool], answer)
     }
 
@@ -75,11 +108,20 @@ impl Bench {
         self.tree_write(case, rule_count, policy, needed + SPARE_BYTES)
     }
 
+    /// Writes the part, for the number of rules that the policy has, with ample room.
+    pub fn write_part(&mut self, case: &str, part: &Policy) -> Agreed {
+        let rule_count = part.rule_count();
+        let written = oracle::tree_file::part_text(rule_count, &part.nodes, &part.pool);
+        let needed = written.map_or(UNUSED_BYTES, |text| text.len());
+        self.part_write(case, rule_count, part, needed + SPARE_BYTES)
+    }
+
     /// Reads the text with these rooms, of which a list takes the first.
     pub fn read(&mut self, case: &str, text: &Text, rooms: [usize; 2]) -> Agreed {
         match text.file {
             File::Rules => self.rules_read(case, &text.bytes, rooms[0]),
             File::Tree => self.tree_read(case, &text.bytes, rooms),
+            File::Part => self.part_read(case, &text.bytes, rooms),
         }
     }
 
@@ -87,7 +129,7 @@ impl Bench {
     pub fn read_in_rooms(&mut self, case: &str, text: &Text) -> Agreed {
         let [first, second] = text.needed;
         self.read(case, text, [0, 0])?;
-        if text.file == File::Tree {
+        if text.file != File::Rules {
             self.read(case, text, [first, 0])?;
         }
         self.read(case, text, [first + SPARE_WORDS[0], second + SPARE_WORDS[1]])

@@ -68,7 +68,7 @@ fn refused(case: &str, answer: Agreed, wanted: [usize; 2]) -> Run {
 /// Rules for every second of so many strips of sources; nine around one destination, one pair of ports and one
 /// protocol, of which some hold the next value too, and which part each strip again and again; and some for the last
 /// source and single ports.
-fn many_nodes(strips: u32, ports: u32) -> Vec<Rule> {
+pub fn many_nodes(strips: u32, ports: u32) -> Vec<Rule> {
     let mut rules: Vec<Rule> = (0..strips).map(|strip| with(0, [(2 * strip + 1) << 20, 12])).collect();
     rules.extend((0..9).map(|number| {
         let more = |bit: u32| number >> bit & 1;
@@ -79,7 +79,7 @@ fn many_nodes(strips: u32, ports: u32) -> Vec<Rule> {
 }
 
 /// So many ranges of ports, each inside the one before, and so many single ports after them.
-fn many_entries(nested: u32, single: u32) -> Vec<Rule> {
+pub fn many_entries(nested: u32, single: u32) -> Vec<Rule> {
     let mut rules: Vec<Rule> = (0..nested).map(|inner| with(2, [inner, 40_000 - inner])).collect();
     rules.extend((0..single).map(|port| with(2, [50_000 + 2 * port; 2])));
     rules

@@ -15,7 +15,7 @@ pub fn run(bench: &mut Bench) -> Run {
 }
 
 /// The nodes of a tree that a build comes to in turn: the node words up to and with each, the entries likewise.
-fn steps(policy: &Policy) -> Vec<[usize; 2]> {
+pub fn steps(policy: &Policy) -> Vec<[usize; 2]> {
     let mut entries = 0;
     let mut all = Vec::new();
     for (number, node) in policy.nodes.chunks(3).enumerate() {
@@ -28,7 +28,7 @@ fn steps(policy: &Policy) -> Vec<[usize; 2]> {
 }
 
 /// What the rooms must be refused with: place and extra for the first node that does not fit.
-fn first_unfit(steps: &[[usize; 2]], rooms: [usize; 2]) -> Option<(usize, u64)> {
+pub fn first_unfit(steps: &[[usize; 2]], rooms: [usize; 2]) -> Option<(usize, u64)> {
     steps.iter().find_map(|&[words, entries]| match () {
         _ if words > rooms[0] => Some((words, 0)),
         _ if entries > rooms[1] => Some((entries, 1)),

@@ -12,11 +12,17 @@ mod file_limits;
 mod file_rooms;
 mod limits;
 mod order;
+mod part_damage;
+mod part_files;
+mod part_order;
+mod part_others;
 mod program_drawn;
 mod program_files;
 mod program_input;
 mod rooms;
 mod scans;
+mod stop_rooms;
+mod stop_steps;
 mod text_cases;
 mod text_damage;
 mod text_drawn;
@@ -35,7 +41,8 @@ mod twins;
 use crate::bench::{Bench, Run};
 use crate::trials::Trials;
 
-/// Compares every group in turn: lists, then trees, then the compiler, then files, then twins, which all of them judge.
+/// Compares every group in turn: lists, then trees, then the compiler, then the compiler that stops, then files, then
+/// twins, which all of them judge.
 pub fn run(bench: &mut Bench) -> Run {
     correctness::run(bench)?;
     limits::run(bench)?;
@@ -57,6 +64,12 @@ pub fn run(bench: &mut Bench) -> Run {
     build_drawn::run(bench)?;
     build_limits::run(bench)?;
     build_rooms::run(bench)?;
+    stop_steps::run(bench)?;
+    stop_rooms::run(bench)?;
+    part_others::run(bench)?;
+    part_damage::run(bench)?;
+    part_order::run(bench)?;
+    part_files::run(bench)?;
     file_correctness::run(bench)?;
     file_limits::run(bench)?;
     file_rooms::run(bench)?;

@@ -5,7 +5,7 @@ use crate::texts::{File, Text};
 
 const PURPOSE: &str = "damage";
 
-/// The rooms that both good texts need.
+/// The rooms that all good texts need.
 const NEEDED: [usize; 2] = [20, 3];
 
 pub fn run(bench: &mut Bench) -> Run {
@@ -80,7 +80,7 @@ fn rules_files(bench: &mut Bench) -> Run {
     each_case(bench, File::Rules, &RULES_CASES)
 }
 
-const TREE_CASES: [Case; 55] = [
+pub const TREE_CASES: [Case; 55] = [
     ("good", "tree 2 3 3|cut 0 4 9 2|leaf 1 2 0 1|leaf 2 1 1|end 4|", 0, 0),
     ("one empty leaf", "tree 0 1 0|leaf 0 0|end 2|", 0, 0),
     ("not well formed", "tree 2 3 3|cut 0 0 4294967295 0|leaf 1 2 1 1|leaf 2 1 0|end 4|", 0, 0),
@@ -142,8 +142,13 @@ fn tree_files(bench: &mut Bench) -> Run {
     each_case(bench, File::Tree, &TREE_CASES)
 }
 
-fn each_case(bench: &mut Bench, file: File, cases: &[Case]) -> Run {
+/// A part's texts are a tree's with another first word.
+pub fn each_case(bench: &mut Bench, file: File, cases: &[Case]) -> Run {
     for &(case, written, number, place) in cases {
+        let written = match written.strip_prefix("tree") {
+            Some(rest) if file == File::Part => format!("part{rest}"),
+            _ => written.to_string(),
+        };
         let written =
             written.replace('A', "1.2.3.0/24 0.0.0.0/0 0 9 1 1 6 6").replace('B', "1.2.3.0/24 0.0.0.0/0 0 9 1 1 6 7");
         let bytes = written.replace('|', "\n").replace(' ', "\t").into_bytes();

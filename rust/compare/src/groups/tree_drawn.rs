@@ -64,7 +64,7 @@ fn small_words(bench: &mut Bench) -> Run {
     Ok(())
 }
 
-fn small_policy(draws: &mut Draws) -> Policy {
+pub fn small_policy(draws: &mut Draws) -> Policy {
     let rule_count = draws.below(4);
     let rules = lists::different(rule_count, || small_rule(draws));
     let node_count = draws.pick(&[1, 1, 2, 3, 3, 3, 4, 5, 5, 5, 7]);

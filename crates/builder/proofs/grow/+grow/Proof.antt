@@ -9,16 +9,18 @@ use mathlib.Core.Path.{refl, sym}
 use lib.Seq.{length-take-le}
 use borrow.Author.Needs.{needs}
 use Rattle.builder.proofs.PartAnswers.{part-refused}
-use Rattle.builder.proofs.Seeing.{seen-short, leaf-asks}
+use Rattle.builder.proofs.PartsGrown.{bud-grown}
+use Rattle.builder.proofs.Seeing.{seen-bud, seen-short, leaf-grows, leaf-asks}
 use Rattle.builder.proofs.grow.grow.Reads.{Post}
 use Rattle.builder.proofs.grow.+grow.Lts-grow as lts
 use Rattle.builder.proofs.grow.+grow.{statement}
 use Rattle.builder.proofs.grow.+grow.Tie.{close}
 use Seen.{μ, given, calls, entry, leaf-look, leaf-seen, leaf-within}
 use Left.{array-share-prefix-met-2, slice-aggregate-grow, left-part-requires, left-spot-requires, grow-requires}
-use Left.{returns-3}
-use Right.{store-cut-requires, array-share-prefix-met-3, slice-aggregate-grow-2, right-part-requires}
-use Right.{right-spot-requires, grow-requires-2, returns-4}
+use Left.{returns-4}
+use Right.{right-child-requires, store-cut-requires, array-share-prefix-met-3, slice-aggregate-grow-2}
+use Right.{right-part-requires}
+use Right.{right-spot-requires, grow-requires-2, returns-5}
 
 module _ (t : ℕ) where
   slice-aggregate-look-at : lts.Need-slice-aggregate-look-at (calls t) (given t) Post
@@ -26,6 +28,9 @@ module _ (t : ℕ) where
 
   look-at-requires : lts.Need-look-at-requires (calls t) (given t) Post
   look-at-requires c κs = (c .before .before .before .before .before .before .before .pre .1, omega arith)
+
+  enum-told : lts.Need-enum-told (calls t) (given t) Post
+  enum-told c = search needs
 
   enum-known-why : lts.Need-enum-known-why (calls t) (given t) Post
   enum-known-why c = search needs
@@ -55,7 +60,11 @@ module _ (t : ℕ) where
 
   returns : lts.Need-returns (calls t) (given t) Post
   returns c =
-      part-refused (seen-short (c .before .before .before .before .look-at .ensures) (c .before .why .given .1) _)
+      rw (seen-bud (c .before .before .before .look-at .ensures) (c .enum-told .given .1)) (bud-grown _ _)
+
+  returns-2 : lts.Need-returns-2 (calls t) (given t) Post
+  returns-2 c =
+      part-refused (seen-short (c .before .before .before .before .look-at .ensures) (c .before .why .given .1))
 
   same-length : lts.Need-same-length (calls t) (given t) Post
   same-length c = search needs
@@ -63,10 +72,10 @@ module _ (t : ℕ) where
   same-length-2 : lts.Need-same-length-2 (calls t) (given t) Post
   same-length-2 c = search needs
 
-  returns-2 : lts.Need-returns-2 (calls t) (given t) Post
-  returns-2 c =
-      rw (leaf-seen (c .before .before .before .before .before .before .before .before .before) .tree) (c .before
-      .before .before .before .leaf-part .ensures)
+  returns-3 : lts.Need-returns-3 (calls t) (given t) Post
+  returns-3 c =
+      rw (leaf-grows (leaf-seen (c .before .before .before .before .before .before .before .before .before)))
+      (c .before .before .before .before .leaf-part .ensures)
 
   same-length-3 : lts.Need-same-length-3 (calls t) (given t) Post
   same-length-3 c = search needs
@@ -84,6 +93,7 @@ pub +grow-spec : {M : Type 1} → statement M
 +grow-spec = close μ λ t. lts.spec (calls t) (given t) Post
     (slice-aggregate-look-at t)
     (look-at-requires t)
+    (enum-told t)
     (enum-known-why t)
     (enum-known-count t)
     (array-share-prefix-met t)
@@ -97,6 +107,7 @@ pub +grow-spec : {M : Type 1} → statement M
     (grow-requires t)
     (enum-known-why-2 t)
     (enum-known-next t)
+    (right-child-requires t)
     (store-cut-requires t)
     (array-share-prefix-met-3 t)
     (slice-aggregate-grow-2 t)
@@ -104,12 +115,13 @@ pub +grow-spec : {M : Type 1} → statement M
     (right-spot-requires t)
     (grow-requires-2 t)
     (returns t)
+    (returns-2 t)
     (same-length t)
     (same-length-2 t)
-    (returns-2 t)
+    (returns-3 t)
     (same-length-3 t)
     (same-length-4 t)
-    (returns-3 t)
+    (returns-4 t)
     (same-length-5 t)
     (same-length-6 t)
-    (returns-4 t)
+    (returns-5 t)

@@ -4,8 +4,9 @@
 mod Seen
 use Prim.Native.Nat.{ℕ}
 use native.Mathlib.Omega.{arith}
+use mathlib.Core.Path.{_∙_}
 use borrow.Author.Needs.{needs}
-use Rattle.tree_check.proofs.Looking.{sees-wrong}
+use Rattle.tree_check.proofs.Looking.{sees-missing, sees-wrong}
 use Rattle.tree_check.proofs.Leaves.{seen-part}
 use Rattle.tree_check.proofs.Joining.{part-is-shallow, left-refused, wrong-child, parts-joined, left-shallow}
 use Rattle.tree_check.proofs.preorder.part_of.Reads.{Post}
@@ -20,6 +21,12 @@ module _ (t : ℕ) where
 
   enum-told : lts.Need-enum-told (calls t) (given t) Post
   enum-told c = search needs
+
+  no-part-requires : lts.Need-no-part-requires (calls t) (given t) Post
+  no-part-requires c κs = search needs
+
+  enum-told-2 : lts.Need-enum-told-2 (calls t) (given t) Post
+  enum-told-2 c = search needs
 
   enum-known-start : lts.Need-enum-known-start (calls t) (given t) Post
   enum-known-start c = search needs
@@ -69,78 +76,67 @@ module _ (t : ℕ) where
   enum-known-next : lts.Need-enum-known-next (calls t) (given t) Post
   enum-known-next c = search needs
 
+  child-at-requires : lts.Need-child-at-requires (calls t) (given t) Post
+  child-at-requires c κs = search needs
+
   returns : lts.Need-returns (calls t) (given t) Post
   returns c =
-      let n = c .before .before in
+      let n = c .before .before .before in
       let p = left-check n in
-      wrong-child _ _ _ _ _ _ (cut-seen (p .before .before .before)) _ (p .before .left-part .ensures)
-      (p .part-of .ensures) (n .next .given .1) (c .if1 .taken)
+      wrong-child _ _ _ _ _ _ _ (cut-seen (p .before .before .before)) _ (p .before .left-part .ensures)
+      (p .part-of .ensures) (n .next .given .1) (c .before .child-at .ensures) (c .if1 .taken)
 
   right-part-requires : lts.Need-right-part-requires (calls t) (given t) Post
   right-part-requires c κs = search needs
 
   sub-part-of-2 : lts.Need-sub-part-of-2 (calls t) (given t) Post
-  sub-part-of-2 c = sub-part-of (left-check (c .before .before .before) .before)
+  sub-part-of-2 c = sub-part-of (left-check (c .before .before .before .before) .before)
 
   part-of-requires-2 : lts.Need-part-of-requires-2 (calls t) (given t) Post
-  part-of-requires-2 c κs = part-of-requires (left-check (c .before .before .before) .before) κs
+  part-of-requires-2 c κs = part-of-requires (left-check (c .before .before .before .before) .before) κs
 
   join-requires : lts.Need-join-requires (calls t) (given t) Post
   join-requires c κs =
-      let n = c .before .before .before .before in
+      let n = c .before .before .before .before .before in
       let p = left-check n in
       let e = p .before .before .before in
       let few = cut-entry e .pre .1 .1 in
       let left =
-      left-shallow _ _ _ _ _ _ (cut-seen e) _ (p .before .left-part .ensures)
+      left-shallow _ _ _ _ _ _ _ (cut-seen e) _ (p .before .left-part .ensures)
       (p .part-of .ensures) (n .next .given .1) in
-      (omega (arith, few, left), part-is-shallow _ _ _ _ _ _ _ (c .part-of2 .ensures) (omega (arith, few)))
+      (omega (arith, few, left), part-is-shallow _ _ _ _ _ _ _ _ (c .part-of2 .ensures) (omega (arith, few)))
 
   returns-2 : lts.Need-returns-2 (calls t) (given t) Post
-  returns-2 c = sees-wrong _ _ _ _ _ _ _ (c .before .before .look-at .ensures) (c .enum-told .given .1)
+  returns-2 c =
+      let m = c .before in
+      c .no-part .ensures ∙
+      sees-missing _ _ _ _ _ _ _ _ (m .before .before .look-at .ensures) (m .enum-told .given .1)
 
   returns-3 : lts.Need-returns-3 (calls t) (given t) Post
-  returns-3 c = seen-part _ _ _ _ _ _ (leaf-seen (c .before .before .before)) (c .leaf-part .ensures)
+  returns-3 c = sees-wrong _ _ _ _ _ _ _ _ (c .before .before .look-at .ensures) (c .enum-told2 .given .1)
 
   returns-4 : lts.Need-returns-4 (calls t) (given t) Post
-  returns-4 c =
-      let p = c .before .before .before in
-      left-refused _ _ _ _ _ _ (cut-seen (p .before .before .before)) _ (p .before .left-part .ensures)
-      (p .part-of .ensures) (c .before .why .given .1)
+  returns-4 c = seen-part _ _ _ _ _ _ _ (leaf-seen (c .before .before .before)) (c .leaf-part .ensures)
 
   returns-5 : lts.Need-returns-5 (calls t) (given t) Post
   returns-5 c =
+      let p = c .before .before .before in
+      left-refused _ _ _ _ _ _ _ (cut-seen (p .before .before .before)) _ (p .before .left-part .ensures)
+      (p .part-of .ensures) (c .before .why .given .1)
+
+  returns-6 : lts.Need-returns-6 (calls t) (given t) Post
+  returns-6 c =
       let r = c .before .before in
-      let n = r .before .before .before in
+      let n = r .before .before .before .before in
       let p = left-check n in
-      parts-joined _ _ _ _ _ _ (cut-seen (p .before .before .before)) _ (p .before .left-part .ensures)
-      (p .part-of .ensures) (n .next .given .1) _ (r .before .if1 .left)
+      parts-joined _ _ _ _ _ _ _ (cut-seen (p .before .before .before)) _ (p .before .left-part .ensures)
+      (p .part-of .ensures) (n .next .given .1) _ (r .before .before .child-at .ensures) (r .before .if1 .left)
       (r .right-part .ensures) (c .before .part-of2 .ensures) (c .join .ensures)
 
 pub +part-of-spec : {M : Type 1} → statement M
 +part-of-spec = close μ λ t. lts.spec (calls t) (given t) Post
-    (look-at-requires t)
-    (enum-told t)
-    (enum-known-start t)
-    (add-end t)
-    (mul-leaf-part t)
-    (sub-leaf-part t)
-    (part-leaf-part-start t)
-    (part-leaf-part-end t)
-    (leaf-part-requires t)
-    (enum-known-field t)
-    (add-part-of t)
-    (left-part-requires t)
-    (sub-part-of t)
-    (part-of-requires t)
-    (enum-known-why t)
-    (enum-known-next t)
-    (returns t)
-    (right-part-requires t)
-    (sub-part-of-2 t)
-    (part-of-requires-2 t)
-    (join-requires t)
-    (returns-2 t)
-    (returns-3 t)
-    (returns-4 t)
-    (returns-5 t)
+    (look-at-requires t) (enum-told t) (no-part-requires t) (enum-told-2 t) (enum-known-start t) (add-end t)
+    (mul-leaf-part t) (sub-leaf-part t) (part-leaf-part-start t) (part-leaf-part-end t) (leaf-part-requires t)
+    (enum-known-field t) (add-part-of t) (left-part-requires t) (sub-part-of t) (part-of-requires t)
+    (enum-known-why t) (enum-known-next t) (child-at-requires t) (returns t) (right-part-requires t) (sub-part-of-2 t)
+    (part-of-requires-2 t) (join-requires t) (returns-2 t) (returns-3 t) (returns-4 t) (returns-5 t) (returns-6 t)

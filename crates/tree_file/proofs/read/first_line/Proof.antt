@@ -10,9 +10,6 @@ use Rattle.tree_file.proofs.read.first_line.Tie as tie
 slice-aggregate-line : tie.Need-slice-aggregate-line
 slice-aggregate-line c = search needs
 
-slice-aggregate-line-2 : tie.Need-slice-aggregate-line-2
-slice-aggregate-line-2 c = search needs
-
 line-requires : tie.Need-line-requires
 line-requires c κs = search needs
 
@@ -77,7 +74,6 @@ first-line-spec =
     tie.close
     (tie.spec
     slice-aggregate-line
-    slice-aggregate-line-2
     line-requires
     enum-known-said
     enum-known-said-2

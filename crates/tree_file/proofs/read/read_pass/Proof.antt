@@ -9,8 +9,8 @@ use Rattle.tree_file.proofs.read.read_pass.Tie as tie
 -- what the first line says
 first :
     (f : tie.After-first-line) {r : First} → f .first-line .result ≡ r →
-    FirstLineRead (f .before .before .before .before .args .text .now) r
-first f e = subst (FirstLineRead (f .before .before .before .before .args .text .now)) e (f .first-line .ensures)
+    let s = f .before .before .before .before .before .args in FirstLineRead (s .word .now) (s .text .now) r
+first f e = subst (FirstLineRead _ _) e (f .first-line .ensures)
 
 first-line-requires : tie.Need-first-line-requires
 first-line-requires c κs = search needs

@@ -14,20 +14,20 @@ use Rattle.tree_file.proofs.write.write_pass.Statement.{statement}
 use Rattle.tree_file.proofs.write.write_pass.Tie as tie
 
 abbrev Inv-loop : tie.InvT-loop
-Inv-loop rules nodes pool text₀ count at₀ i₀ text at i =
+Inv-loop word rules nodes pool text₀ count at₀ i₀ text at i =
     Put text₀ at₀ (unlines (nodeLines nodes pool i)) text at × (count ≡ nodeCount nodes) × (i ≤ nodeCount nodes)
 
 abbrev μ-loop : tie.MeasureT-loop
-μ-loop rules nodes pool text₀ count at₀ i₀ text at i = nodeCount nodes - i
+μ-loop word rules nodes pool text₀ count at₀ i₀ text at i = nodeCount nodes - i
 
 cast-put-first : tie.Need-cast-put-first Inv-loop μ-loop
-cast-put-first c = omega (arith, c .before .before .before .before .pre .few)
+cast-put-first c = omega (arith, c .before .before .before .before .before .pre .few)
 
 cast-put-first-2 : tie.Need-cast-put-first-2 Inv-loop μ-loop
-cast-put-first-2 c = omega (arith, few-nodes (c .before .before .before .before .pre))
+cast-put-first-2 c = omega (arith, few-nodes (c .before .before .before .before .before .pre))
 
 cast-put-first-3 : tie.Need-cast-put-first-3 Inv-loop μ-loop
-cast-put-first-3 c = omega (arith, sizes-of (c .before .before .before .before .pre) .short-pool)
+cast-put-first-3 c = omega (arith, sizes-of (c .before .before .before .before .before .pre) .short-pool)
 
 put-first-requires : tie.Need-put-first-requires Inv-loop μ-loop
 put-first-requires c κs = tt
@@ -37,7 +37,7 @@ loop-holds c = (put-same (sym (text-none _)) (put-none _ _ (omega arith)), refl,
 
 put-node-requires : tie.Need-put-node-requires Inv-loop μ-loop
 put-node-requires c κs =
-    let s = c .before .before .before .before .before .before .before .before .before .before in
+    let s = c .before .before .before .before .before .before .before .before .before .before .before in
     writable-of (s .pre) _ (omega (arith, c .before .before .loop .inv .1, c .before .loop-test .taken))
 
 add-i : tie.Need-add-i Inv-loop μ-loop
@@ -57,12 +57,12 @@ loop-again c =
 
 cast-put-end : tie.Need-cast-put-end Inv-loop μ-loop
 cast-put-end c =
-    let s = c .before .before .before .before .before .before .before .before .before .before in
+    let s = c .before .before .before .before .before .before .before .before .before .before .before in
     omega (arith, few-nodes (s .pre), c .before .before .loop .inv .1)
 
 add-put-end : tie.Need-add-put-end Inv-loop μ-loop
 add-put-end c =
-    let s = c .before .before .before .before .before .before .before .before .before .before in
+    let s = c .before .before .before .before .before .before .before .before .before .before .before in
     omega (arith, few-nodes (s .pre), c .before .before .loop .inv .1)
 
 put-end-requires : tie.Need-put-end-requires Inv-loop μ-loop
@@ -77,7 +77,7 @@ same-length c =
 returns : tie.Need-returns Inv-loop μ-loop
 returns c =
     let last = c .before .before .before .before in
-    put-same (text-parts _ _ _ _ (omega arith))
+    put-same (text-parts _ _ _ _ _ (omega arith))
     (put-then (omega arith)
     (put-then (omega arith) (last .before .before .before .before .put-first .ensures) (last .before .loop .inv .0))
     (c .before .before .put-end .ensures))

@@ -4,7 +4,8 @@ use Prim.Native.Nat.{ℕ}
 use native.Mathlib.Omega.{arith}
 use mathlib.Core.Path.{sym}
 use lib.Seq.{length-take-le}
-use Rattle.builder.proofs.SeenParts.{left-less, seen-allowed, left-growable, left-part-refused}
+use Rattle.builder.proofs.SeenParts.{left-less, seen-allowed, left-growable}
+use Rattle.builder.proofs.JoinedParts.{left-part-refused}
 use Rattle.builder.proofs.grow.grow.Reads.{Post}
 use Rattle.builder.proofs.grow.+grow.Lts-grow as lts
 use Rattle.builder.proofs.grow.+grow.Proof.Seen.{given, calls, entry, cut-look, cut-of, cut-seen, cut-within}
@@ -34,10 +35,10 @@ module _ (t : ℕ) where
         left-growable (s .pre .1) (cut-seen n) (at .before .left-part .ensures) (at .left-spot .ensures),
       )
 
-  pub returns-3 : lts.Need-returns-3 (calls t) (given t) Post
-  returns-3 c =
+  pub returns-4 : lts.Need-returns-4 (calls t) (given t) Post
+  returns-4 c =
       let l = c .before .before .before .before .before .before .before in
       let f = cut-of l in
-      left-part-refused (entry (cut-look f) .pre .1) (cut-seen f) (l .before .before .before .before .left-part
+      left-part-refused (cut-seen f) (l .before .before .before .before .left-part
       .ensures)
       (l .before .before .before .left-spot .ensures) (l .grow .ensures) (c .before .why2 .given .1)

@@ -14,6 +14,7 @@ use Rattle.builder.proofs.grow.look_at.Reads as look-at
 use Rattle.builder.proofs.grow.leaf_part.Reads as leaf-part
 use Rattle.builder.proofs.grow.left_spot.Reads as left-spot
 use Rattle.builder.proofs.grow.right_spot.Reads as right-spot
+use Rattle.builder.proofs.grow.right_child.Reads as right-child
 use Rattle.builder.proofs.grow.store_cut.Reads as store-cut
 use Rattle.builder.proofs.grow.grow.Reads as grow
 use Rattle.builder.proofs.grow.grow.Kinds as kinds
@@ -45,6 +46,8 @@ module _ (t : ℕ) where
     left-spot.Learnt,
     below,
     grow.Post,
+    right-child.Asked,
+    right-child.Learnt,
     store-cut.Asked,
     store-cut.Learnt,
     right-part.Asked,

@@ -9,7 +9,9 @@ use Rattle.fields.proofs.bounds.right_part.Reads as right-part
 use Rattle.tree_check.proofs.Looking.{SeesLeaf, SeesCut, sees-leaf, sees-cut}
 use Rattle.tree_check.proofs.Leaves.{seen-within}
 use Rattle.tree_check.proofs.preorder.look_at.Reads as look-at
+use Rattle.tree_check.proofs.preorder.no_part.Reads as no-part
 use Rattle.tree_check.proofs.preorder.leaf_part.Reads as leaf-part
+use Rattle.tree_check.proofs.preorder.child_at.Reads as child-at
 use Rattle.tree_check.proofs.preorder.join.Reads as join
 use Rattle.tree_check.proofs.preorder.part_of.Reads as part-of
 use Rattle.tree_check.proofs.preorder.part_of.Kinds as kinds
@@ -33,12 +35,16 @@ module _ (t : ℕ) where
   calls = (
     look-at.Asked,
     look-at.Learnt,
+    no-part.Asked,
+    no-part.Learnt,
     leaf-part.Asked,
     leaf-part.Learnt,
     left-part.Asked,
     left-part.Learnt,
     below,
     part-of.Post,
+    child-at.Asked,
+    child-at.Learnt,
     right-part.Asked,
     right-part.Learnt,
     join.Asked,
@@ -65,20 +71,20 @@ module _ {t : ℕ} where
   pub leaf-seen :
       (c : lts.After-start (calls t) (given t) part-of.Post) →
       let a = leaf-entry c .args in
-      SeesLeaf (a .rules .now) (a .nodes .now) (a .pool .now) (a .cuts) (a .bounds) (a .at)
+      SeesLeaf (a .far) (a .rules .now) (a .nodes .now) (a .pool .now) (a .cuts) (a .bounds) (a .at)
       (c .start .given .0 .0) (c .start .given .0 .1 .0)
-  leaf-seen c = sees-leaf _ _ _ _ _ _ _ (c .before .before .look-at .ensures) (c .start .given .1)
+  leaf-seen c = sees-leaf _ _ _ _ _ _ _ _ (c .before .before .look-at .ensures) (c .start .given .1)
 
   -- its entries lie within the pool
   pub leaf-within :
       (c : lts.After-start (calls t) (given t) part-of.Post) →
       c .start .given .0 .0 + c .start .given .0 .1 .0 ≤ length (leaf-entry c .args .pool .now)
-  leaf-within c = seen-within _ _ _ _ _ _ (leaf-seen c) (leaf-entry c .pre .1 .0)
+  leaf-within c = seen-within _ _ _ _ _ _ _ (leaf-seen c) (leaf-entry c .pre .1 .0)
 
   -- a cut is seen at the node
   pub cut-seen :
       (c : lts.After-field (calls t) (given t) part-of.Post) →
       let a = cut-entry c .args in
-      SeesCut (a .rules .now) (a .nodes .now) (a .pool .now) (a .cuts) (a .bounds) (a .at)
+      SeesCut (a .far) (a .rules .now) (a .nodes .now) (a .pool .now) (a .cuts) (a .bounds) (a .at)
       (c .field .given .0 .0) (c .field .given .0 .1 .0) (c .field .given .0 .1 .1 .0)
-  cut-seen c = sees-cut _ _ _ _ _ _ _ (c .before .before .look-at .ensures) (c .field .given .1)
+  cut-seen c = sees-cut _ _ _ _ _ _ _ _ (c .before .before .look-at .ensures) (c .field .given .1)

@@ -4,6 +4,7 @@ use Rattle.console.proofs.Whole.{whole-input}
 use Rattle.policy.proofs.Output.{output-by-list, output-refused, accepted-iff}
 use Rattle.policy.proofs.CompiledSize.{text-short}
 use Rattle.policy.proofs.CompiledServes.{compiled-serves}
+use Rattle.policy.proofs.StepOutputs.{steps-refused, next-anew, steps-short}
 use Rattle.claims.specs.Beyond.{Program}
 
 pub program-claim : Program
@@ -15,4 +16,7 @@ program-claim =
       pieces = answers-pieces;
       whole = whole-input;
       compiled = λ rs e. (compiled-serves rs e, text-short rs e);
+      step-stops = λ f g most why e. steps-refused f g most e;
+      step-anew = λ f g most rs why e q. next-anew f g most e q;
+      step-short = steps-short;
     }

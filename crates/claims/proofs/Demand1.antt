@@ -73,6 +73,10 @@ code-claim = (
   in-policy.serving.who_serves.Met.met,
   in-policy.line.verdict_line.Met.met,
   in-policy.compiled.compile_text.Met.met,
+  in-policy.part.take_part.Met.met,
+  in-policy.part.goes_on.Met.met,
+  in-policy.step.some_text.Met.met,
+  in-policy.step.on_text.Met.met,
   exports.line.wick_rule_check.Met.met,
   exports.line.wick_line_all.Met.met,
   exports.line.wick_line_first.Met.met,
@@ -155,4 +159,10 @@ calls-claim =
         writes-only policy.taken-apart (λ r a p. p .1 .1) (λ e. refl),
       );
       compile-text = λ rs w. writes-only written-apart (λ r a p. p) (λ e. refl);
+      take-part = λ f ns es. (
+        writes-only policy.begun-apart (λ r a p. p .1 .0) (λ e. refl),
+        writes-only policy.begun-apart (λ r a p. p .1 .1) (λ e. refl),
+      );
+      some-text = λ rs most w. writes-only written-apart (λ r a p. p) (λ e. refl);
+      on-text = λ rs n part kept most w. writes-only written-apart (λ r a p. p) (λ e. refl);
     }

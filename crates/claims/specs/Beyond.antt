@@ -1,5 +1,6 @@
 -- Beyond the scope: what the program writes, from the bytes of its two files and of its input; and the file that a list
--- is compiled into. A file is its bytes; or none, where it was not read to its end. Statements only.
+-- is compiled into, at once and in steps. A file is its bytes; or none, where it was not read to its end. Statements
+-- only.
 use Prim.Native.Nat.{ℕ, _≤_}
 use mathlib.Core.Logic.{_↔_}
 use mathlib.Core.Path.{_≡_}
@@ -11,9 +12,11 @@ use Rattle.refusals.specs.declared.Verdict.the-variants.{Fine, Refused}
 use Rattle.text.specs.Text.{good, refused}
 use Rattle.console.specs.declared.gather.Gathering.{Gathering}
 use Rattle.console.specs.Gathered.{begun, after, answers, lastReply, inputReplies}
-use Rattle.policy.specs.Files.{listIn, treeOf, mostFile}
+use Rattle.policy.specs.Files.{listIn, treeOf, partOf, mostFile}
 use Rattle.policy.specs.Output.{servingVerdict, byList, verdictLine, output, TreeServes}
 use Rattle.policy.specs.Compiled.{largestBuild, builtText}
+use Rattle.policy.specs.Steps.{someVerdict, someText, onVerdict, onText}
+use Rattle.policy.specs.StepOutput.{partVerdict, firstOutput, nextOutput}
 
 pub record Program : Type 0 where
   -- a rule file that is refused has its line written, and nothing else
@@ -37,3 +40,16 @@ pub record Program : Type 0 where
   pub compiled :
       (rs : List ℕ) → largestBuild rs ≡ Fine →
       TreeServes rs (some (builtText rs)) × (length (builtText rs) ≤ mostFile)
+  -- in steps, a rule file that is refused has its line written, and nothing else
+  pub step-stops :
+      (f g : Option (List ℕ)) (most : ℕ) (why : Refusal) → listIn f ≡ refused why →
+      (firstOutput f most ≡ verdictLine (Refused why)) × (nextOutput f g most ≡ verdictLine (Refused why))
+  -- a part that is refused has its line written, and then comes what a step from nothing writes
+  pub step-anew :
+      (f g : Option (List ℕ)) (most : ℕ) (rs : List ℕ) (why : Refusal) → listIn f ≡ good rs →
+      partVerdict rs (partOf g) ≡ Refused why → nextOutput f g most ≡ verdictLine (Refused why) ++ firstOutput f most
+  -- the text of a step that is fine can be read by the program
+  pub step-short :
+      (rs : List ℕ) (n : ℕ) (part kept : List ℕ) (most : ℕ) →
+      (someVerdict rs most ≡ Fine → length (someText rs most) ≤ mostFile) ×
+      (onVerdict rs n part kept most ≡ Fine → length (onText rs part kept most) ≤ mostFile)

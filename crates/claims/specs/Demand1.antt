@@ -41,7 +41,9 @@ Code M =
     in-console.feed.feed.Statement.statement M × in-console.feed.last_reply.Statement.statement M ×
     in-policy.list.take_list.Statement.statement M × in-policy.tree.take_tree.Statement.statement M ×
     in-policy.serving.who_serves.Statement.statement M × in-policy.line.verdict_line.Statement.statement M ×
-    in-policy.compiled.compile_text.Statement.statement M × exports.line.wick_rule_check.Statement.statement M ×
+    in-policy.compiled.compile_text.Statement.statement M × in-policy.part.take_part.Statement.statement M ×
+    in-policy.part.goes_on.Statement.statement M × in-policy.step.some_text.Statement.statement M ×
+    in-policy.step.on_text.Statement.statement M × exports.line.wick_rule_check.Statement.statement M ×
     exports.line.wick_line_all.Statement.statement M × exports.line.wick_line_first.Statement.statement M ×
     exports.line.wick_scan_all.Statement.statement M × exports.line.wick_scan_first.Statement.statement M ×
     exports.tree.wick_tree_all.Statement.statement M × exports.tree.wick_tree_first.Statement.statement M ×
@@ -94,3 +96,11 @@ pub record Calls : Type 0 where
   pub take-tree : (f : Option (List ℕ)) (ns es : List ℕ) →
       WritesBoth ns es (policy.TakeTree.TreeTaken f ns es) policy.TakeTree.paper (value 0) (value 1)
   pub compile-text : (rs w : List ℕ) → WritesOnly w (policy.Compiled.TextCompiled rs w) text.Said.paper (value 0)
+  pub take-part : (f : Option (List ℕ)) (ns es : List ℕ) →
+      WritesBoth ns es (policy.TakePart.PartTaken f ns es) policy.TakePart.paper (value 1) (value 2)
+  pub some-text :
+      (rs : List ℕ) (most : ℕ) (w : List ℕ) →
+      WritesOnly w (policy.Steps.SomeWritten rs most w) text.Said.paper (value 0)
+  pub on-text :
+      (rs : List ℕ) (n : ℕ) (part kept : List ℕ) (most : ℕ) (w : List ℕ) →
+      WritesOnly w (policy.Steps.OnWritten rs n part kept most w) text.Said.paper (value 0)

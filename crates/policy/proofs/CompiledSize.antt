@@ -1,9 +1,10 @@
--- The text that a list is compiled into is no longer than a file may be: a cut's line takes at most 27 bytes, a leaf's
--- line 14 and 4 for each entry, and a tree has one leaf more than cuts.
+-- The text that a list is compiled into is no longer than a file may be, nor is that of a part: a cut's line takes at
+-- most 27 bytes, a leaf's line 14 and 4 for each entry, and a tree has one leaf, or part that is not begun, more than
+-- cuts.
 --   textBelow nodes pool i    the bytes of the lines of the first i nodes
 use Prim.Native.Nat.{ℕ, _+_, _*_, _^_, _≤_, _<_}
 use native.Mathlib.Omega.{arith}
-use mathlib.Core.Bool.{false}
+use mathlib.Core.Bool.{Bool}
 use mathlib.Core.Path.{_≡_, refl, sym, ap, _∙_}
 use mathlib.Core.List.{List, [], _∷_}
 use lib.ListN.{length, replicate, length-append}
@@ -11,15 +12,16 @@ use Rattle.facts.proofs.Under.{all-under-iff-at, all-under-iff-has}
 use Rattle.refusals.specs.declared.Verdict.{Verdict}
 use Rattle.refusals.specs.declared.Verdict.the-variants.{Fine, Refused}
 use Rattle.refusals.proofs.Order.{then-fine, then-refused, room-fine-iff}
+use Rattle.fields.specs.Boxes.{rootBox}
 use Rattle.rules.specs.Words.{mostRules, ruleCount}
 use Rattle.trees.specs.Words.{mostNodes, nodeCount}
 use Rattle.trees.proofs.Sizes.{sizes-fine-iff}
-use Rattle.built.specs.Trees.{Tree, cut}
-use Rattle.built.specs.Layout.{size, pooled}
-use Rattle.built.specs.BuiltTree.{builtTree, builtNodes, builtPool}
-use Rattle.built.proofs.Laying.{size-leaf, size-cut, pooled-leaf, length-pooled, right-child, length-laid}
-use Rattle.built.proofs.Lying.{Lies, aLeaf, aCut}
-use Rattle.built.proofs.FullTrees.{full-some}
+use Rattle.tree_check.specs.Whole.{mostCuts}
+use Rattle.built.specs.Trees.{Tree, bud, cut}
+use Rattle.built.specs.Layout.{size, pooled, rightChild, laid}
+use Rattle.built.proofs.Laying.{size-bud, size-leaf, size-cut, pooled-leaf, length-pooled}
+use Rattle.built.proofs.Laying.{right-child-below, length-laid}
+use Rattle.built.proofs.Lying.{Lies, aBud, aLeaf, aCut}
 use Rattle.built.proofs.Covering.{ListsRules, Covers, byBud, byLeaf, byCut}
 use Rattle.built.proofs.Covering.{covers-full, built-covers, built-lies}
 use Rattle.text.specs.Words.{tab, treeWord, cutWord, leafWord, fourTabs}
@@ -28,13 +30,14 @@ use Rattle.text.specs.Text.{unlines}
 use Rattle.text.proofs.Below.{below-of}
 use Rattle.text.proofs.Sizes.{digits-few, fields-few}
 use Rattle.text.proofs.Files.{text-none, text-more}
-use Rattle.tree_file.specs.TreeLines.{leafMarks, nodeLine, nodeLines}
+use Rattle.tree_file.specs.TreeLines.{leafMarks, nodeLine, nodeLines, fileText, Spelling}
 use Rattle.tree_file.proofs.Growing.{cut-line, leaf-line}
 use Rattle.tree_file.proofs.Writing.{text-parts}
 use Rattle.policy.specs.Files.{mostFile}
 use Rattle.policy.specs.Compiled.{largestBuild, builtText, compileVerdict}
 use Rattle.policy.proofs.BuiltWords.{InRoot, root-in-root, left-in-root, right-in-root, value-under}
 use Rattle.policy.proofs.Compiling.{built-spelling}
+use Rattle.policy.proofs.Buds.{buds, buds-none}
 
 -- a cut's line
 cut-few :
@@ -70,12 +73,15 @@ module _ (rs nodes pool : List ℕ) (few : ruleCount rs ≤ mostRules) where
       let under = all-under-iff-has mostRules l .1 (λ y m. omega (arith, w .rules y m)) in
       below-of (10 ^ 3) l (λ i h. omega (arith, all-under-iff-at mostRules l .0 under i h))
 
-  -- the lines of a tree that covers the list
+  -- the lines of a tree that covers the list, or of a part of it
   tree-few :
-      {k i s : ℕ} {b : List (List ℕ)} {t : Tree} → Covers false rs k b t → InRoot b → Lies nodes pool t i s →
-      i + size t ≤ mostNodes →
-      2 * textBelow nodes pool (i + size t) + 13 ≤ 2 * textBelow nodes pool i + 41 * size t + 8 * length (pooled t)
-  tree-few (byBud e) r w m = let z : _≡_ {A = ℕ} 0 1 = cc in absurd (omega arith)
+      {far : Bool} {k i s : ℕ} {b : List (List ℕ)} {t : Tree} → Covers far rs k b t → InRoot b →
+      Lies nodes pool t i s → i + size t ≤ mostNodes →
+      2 * textBelow nodes pool (i + size t) + 13 ≤
+      2 * textBelow nodes pool i + 41 * size t + 8 * length (pooled t) + 26 * buds t
+  unfolding buds
+  tree-few (byBud e) r (aBud {i = i} n) m =
+      let none : i + size bud ≡ i = omega (arith, size-bud) in rw none (omega arith)
   tree-few (byLeaf {l = l} w) r (aLeaf {i = i} there f s c u e) m =
       let one = size-leaf l in
       let line : length (nodeLine nodes pool i) ≤ 13 + length l * 4 =
@@ -85,42 +91,53 @@ module _ (rs nodes pool : List ℕ) (few : ruleCount rs ≤ mostRules) where
   tree-few (byCut {f = f} {v = v} {x = x} {y = y} u d p q) r (aCut {i = i} there ef ev ec left right) m =
       let nodes-in = size-cut f v x y in
       let entries-in = length-pooled f v x y in
+      let child = right-child-below y (i + 1 + size x) (10 ^ 4) (omega arith) (omega arith) in
       let line : length (nodeLine nodes pool i) ≤ 26 =
-      rw (cut-line nodes pool i (omega arith), ef, ev, ec, right-child y (i + 1 + size x) (full-some (covers-full q)))
-      (cut-few i f v (i + 1 + size x) (omega arith) (omega arith) (omega (arith, value-under v r u d)) (omega arith)) in
+      rw (cut-line nodes pool i (omega arith), ef, ev, ec)
+      (cut-few i f v (rightChild y (i + 1 + size x)) (omega arith) (omega arith) (omega (arith, value-under v r u d))
+      child) in
       let a = tree-few p (left-in-root v r u d) left (omega arith) in
       let b = tree-few q (right-in-root v r u d) right (omega arith) in
       let behind : i + size (cut f v x y) ≡ i + 1 + size x + size y = omega arith in
       rw behind (omega (arith, below-more i 26 line))
 
+-- a file whose first word has four letters, of a tree that covers the list so far, is no longer than a file may be
+pub file-short :
+    (rs word : List ℕ) {far : Bool} {t : Tree} → length word ≡ 4 → Covers far rs mostCuts rootBox t →
+    Lies (laid t 0 0) (pooled t) t 0 0 → buds t ≤ mostCuts + 1 → Spelling (ruleCount rs) (laid t 0 0) (pooled t) →
+    length (fileText word (ruleCount rs) (laid t 0 0) (pooled t)) ≤ mostFile
+unfolding printLine printFields
+file-short rs word {t = t} four c w few-buds g =
+    let nodes = laid t 0 0 in
+    let pool = pooled t in
+    let s = sizes-fine-iff nodes pool .0 (g .sizes) in
+    let n = nodeCount nodes in
+    let laid-words = length-laid t 0 0 in
+    let lines = tree-few rs nodes pool (g .few) c root-in-root w (omega (arith, s .few-nodes)) in
+    let none = ap length (text-none (nodeLine nodes pool)) in
+    let same : n ≡ 0 + size t = omega arith in
+    let parts = text-parts word (ruleCount rs) nodes pool _ (sym same) in
+    rw (sym parts)
+    (simp length-append
+    (omega (
+      arith,
+      lines,
+      none,
+      s .few-nodes,
+      s .short-pool,
+      digits-few 2 (ruleCount rs) (omega (arith, g .few)),
+      digits-few 3 n (omega (arith, s .few-nodes)),
+      digits-few 3 (length pool) (omega (arith, s .short-pool)),
+      digits-few 3 (n + 1) (omega (arith, s .few-nodes)),
+    )))
+
 module _ (rs : List ℕ) where
   -- where the build is fine, the text is no longer than a file may be
   pub text-short : largestBuild rs ≡ Fine → length (builtText rs) ≤ mostFile
-  unfolding builtText printLine printFields
+  unfolding builtText
   text-short e =
-      let g = built-spelling rs e in
-      let s = sizes-fine-iff (builtNodes rs) (builtPool rs) .0 (g .sizes) in
-      let n = nodeCount (builtNodes rs) in
-      let laid-words = length-laid (builtTree rs) 0 0 in
-      let lines =
-      tree-few rs (builtNodes rs) (builtPool rs) (g .few) (built-covers rs) root-in-root (built-lies rs)
-      (omega (arith, s .few-nodes)) in
-      let none = ap length (text-none (nodeLine (builtNodes rs) (builtPool rs))) in
-      let same : n ≡ 0 + size (builtTree rs) = omega arith in
-      let parts = text-parts treeWord (ruleCount rs) (builtNodes rs) (builtPool rs) _ (sym same) in
-      rw (sym parts)
-      (simp length-append
-      (omega (
-        arith,
-        lines,
-        none,
-        s .few-nodes,
-        s .short-pool,
-        digits-few 2 (ruleCount rs) (omega (arith, g .few)),
-        digits-few 3 n (omega (arith, s .few-nodes)),
-        digits-few 3 (length (builtPool rs)) (omega (arith, s .short-pool)),
-        digits-few 3 (n + 1) (omega (arith, s .few-nodes)),
-      )))
+      let none = buds-none (covers-full (built-covers rs)) in
+      file-short rs treeWord refl (built-covers rs) (built-lies rs) (omega (arith, none)) (built-spelling rs e)
 
   -- so where there is room for a file, nothing is refused but what the build refuses
   pub room-enough : (room : ℕ) → mostFile ≤ room → compileVerdict rs room ≡ largestBuild rs

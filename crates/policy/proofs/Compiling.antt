@@ -1,11 +1,9 @@
 -- A list is compiled: what the build says of it, and the text of what is built.
 use Prim.Native.Nat.{ℕ, _*_, _≤_}
 use native.Mathlib.Omega.{arith}
-use mathlib.Core.Path.{_≡_, refl, sym, ap, _∙_}
+use mathlib.Core.Path.{_≡_, refl, ap}
 use mathlib.Core.List.{List, [], _∷_}
-use lib.ListN.{length, take, drop, length-append}
-use Rattle.facts.specs.Lists.{written}
-use Rattle.facts.proofs.Setting.{written-front}
+use lib.ListN.{length, take}
 use Rattle.refusals.specs.declared.Refusal.{Refusal}
 use Rattle.refusals.specs.declared.Verdict.the-variants as verdict
 use Rattle.refusals.proofs.Order.{then-fine, then-refused}
@@ -16,7 +14,6 @@ use Rattle.trees.specs.Words.{nodeWords, mostNodes, mostPool}
 use Rattle.tree_check.proofs.Accepts.{accepted}
 use Rattle.built.specs.Layout.{size}
 use Rattle.built.specs.BuiltTree.{builtTree, builtNodes, builtPool, buildVerdict}
-use Rattle.built.proofs.Laying.{length-laid}
 use Rattle.built.proofs.BuiltAccepted.{built-accepted}
 use Rattle.builder.specs.declared.build.Built.{Built}
 use Rattle.builder.specs.declared.build.Built.the-variants as built
@@ -27,6 +24,7 @@ use Rattle.tree_file.specs.TreeLines.{Spelling}
 use Rattle.tree_file.specs.Writing.{TreeWritten}
 use Rattle.tree_file.proofs.SpellingVerdict.{fine-of-spelling}
 use Rattle.policy.specs.Compiled.{largestBuild, builtText, TextCompiled}
+use Rattle.policy.proofs.Stored.{stands, node-words}
 
 -- where the build is fine, there is a text of what is built
 pub built-spelling :
@@ -54,31 +52,17 @@ module _
     fine : largestBuild rs ≡ verdict.Fine
     fine = rw (node-room, pool-room) at (says .0)
 
-    node-words : length (builtNodes rs) ≡ n * nodeWords
-    node-words =
-        let count : n ≡ size (builtTree rs) = (let z = says .1 in cc) in
-        length-laid (builtTree rs) 0 0 ∙ ap (λ (k : ℕ). k * nodeWords) (sym count)
-
-    pool-words : length (builtPool rs) ≡ p
-    pool-words = let z = says .1 in cc
-
     -- the words of the nodes stand in front
     pub nodes-stand : (take (n * nodeWords) nodes′ ≡ builtNodes rs) × (n * nodeWords ≤ length nodes′)
-    unfolding written
     nodes-stand =
-        let left = left-written (t .0) (says .0) in (
-          ap (take (n * nodeWords)) left ∙ written-front (builtNodes rs) nodes (n * nodeWords) node-words,
-          rw (left, length-append (builtNodes rs) (drop (length (builtNodes rs)) nodes)) (omega (arith, node-words)),
-        )
+        let count : n ≡ size (builtTree rs) = (let z = says .1 in cc) in
+        stands (builtNodes rs) nodes (n * nodeWords) (left-written (t .0) (says .0)) (node-words (builtTree rs) n count)
 
     -- so do the entries
     pub pool-stands : (take p pool′ ≡ builtPool rs) × (p ≤ length pool′)
-    unfolding written
     pool-stands =
-        let left = left-written (t .1) (says .0) in (
-          ap (take p) left ∙ written-front (builtPool rs) pool p pool-words,
-          rw (left, length-append (builtPool rs) (drop (length (builtPool rs)) pool)) (omega (arith, pool-words)),
-        )
+        let total : length (builtPool rs) ≡ p = (let z = says .1 in cc) in
+        stands (builtPool rs) pool p (left-written (t .1) (says .0)) total
 
     -- what is written of them is the text of the tree
     pub text-written :

@@ -5,7 +5,15 @@ pub mod Taking
 pub mod Servers
 pub mod Output
 pub mod Unique
+pub mod Stored
 pub mod Compiling
 pub mod BuiltWords
+pub mod Buds
 pub mod CompiledServes
 pub mod CompiledSize
+pub mod PartTaking
+pub mod PartGoing
+pub mod StepWords
+pub mod StepTexts
+pub mod StepSize
+pub mod StepOutputs

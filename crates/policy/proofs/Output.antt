@@ -18,16 +18,17 @@ use Rattle.trees.specs.Words.{nodeWords, mostNodes, mostPool}
 use Rattle.trees.proofs.Sizes.{sizes-fine-iff}
 use Rattle.tree_check.specs.TreeCheck.{checkVerdict}
 use Rattle.tree_check.proofs.Accepts.{accepts-iff-serves}
+use Rattle.text.specs.Words.{treeWord, partWord}
 use Rattle.text.specs.Text.{Reading, good, refused}
 use Rattle.rule_file.specs.RuleText.{rulesIn}
 use Rattle.rule_file.specs.Reading as rule-file
 use Rattle.rule_file.proofs.RoundTrips.{good-of-read}
-use Rattle.tree_file.specs.TreeText.{Tree, tree, treeIn}
+use Rattle.tree_file.specs.TreeText.{Tree, tree, fileIn}
 use Rattle.tree_file.specs.Reading.{roomFor, readVerdict, nodesIn, poolIn}
 use Rattle.tree_file.proofs.RoundTrips.{spelling-of-read}
 use Rattle.console.specs.Gathered.{inputReplies}
 use Rattle.console.proofs.Agreeing.{input-alike}
-use Rattle.policy.specs.Files.{listIn, treeOf}
+use Rattle.policy.specs.Files.{listIn, treeOf, partOf}
 use Rattle.policy.specs.Output.{ownVerdict, servingVerdict, byList, byServing, verdictLine, onList, output}
 use Rattle.policy.specs.Output.{TreeServes}
 use Rattle.policy.proofs.Servers.{serving-as-list}
@@ -95,17 +96,31 @@ list-room (some s) {a} h = go (rulesIn s) refl
     go (good ws) e =
         let few = good-of-fine ws (good-of-read s ws e) .few in room-fine-iff (length ws) a .1 (omega arith)
 
--- words for the most nodes and for the longest pool are room for any tree
-pub tree-room :
-    (f : Option (List ℕ)) {a b : ℕ} → mostNodes * nodeWords ≤ a → mostPool ≤ b →
-    readVerdict (treeOf f) a b ≡ ownVerdict (treeOf f)
-unfolding treeOf roomFor
-tree-room none h k = refl
-tree-room (some s) {a} {b} h k = go (treeIn s) refl
+-- words for the most nodes and for the longest pool are room for any tree that a text says, whatever its first word
+pub text-room :
+    (word s : List ℕ) {a b : ℕ} → mostNodes * nodeWords ≤ a → mostPool ≤ b →
+    readVerdict (fileIn word s) a b ≡ ownVerdict (fileIn word s)
+unfolding roomFor
+text-room word s {a} {b} h k = go (fileIn word s) refl
   where
-    go : (t : Reading Tree) → treeIn s ≡ t → readVerdict t a b ≡ ownVerdict t
+    go : (t : Reading Tree) → fileIn word s ≡ t → readVerdict t a b ≡ ownVerdict t
     go (refused why) e = refl
     go (good (tree n ns es)) e =
         let fits = sizes-fine-iff ns es .0 (spelling-of-read _ s n ns es e .sizes) in
         then-fine _ (room-fine-iff (length ns) a .1 (omega (arith, fits .few-nodes))) ∙
         holds-fine _ (le-leb (length es) b (omega (arith, fits .short-pool)))
+
+-- so they are for any tree, and for any part
+pub tree-room :
+    (f : Option (List ℕ)) {a b : ℕ} → mostNodes * nodeWords ≤ a → mostPool ≤ b →
+    readVerdict (treeOf f) a b ≡ ownVerdict (treeOf f)
+unfolding treeOf
+tree-room none h k = refl
+tree-room (some s) h k = text-room treeWord s h k
+
+pub part-room :
+    (f : Option (List ℕ)) {a b : ℕ} → mostNodes * nodeWords ≤ a → mostPool ≤ b →
+    readVerdict (partOf f) a b ≡ ownVerdict (partOf f)
+unfolding partOf
+part-room none h k = refl
+part-room (some s) h k = text-room partWord s h k

@@ -14,10 +14,11 @@ use Rattle.refusals.proofs.Promises.{refused-by, fine-by, said-by, writes-refus
 use Rattle.refusals.proofs.Promises.{writes-fine, left-found, left-written}
 use Rattle.trees.specs.Words.{nodeWords, nodeCount}
 use Rattle.trees.proofs.Sizes.{sizes-fine-iff}
+use Rattle.text.specs.Words.{treeWord}
 use Rattle.text.specs.Text.{Reading, good, refused}
 use Rattle.tree_file.specs.declared.read.Read.{Read}
 use Rattle.tree_file.specs.declared.read.Read.the-variants as read
-use Rattle.tree_file.specs.TreeText.{Tree, tree, treeIn}
+use Rattle.tree_file.specs.TreeText.{Tree, tree, fileIn, treeIn}
 use Rattle.tree_file.specs.Reading.{roomFor, readVerdict, valuesIn, nodesIn, poolIn, TreeRead}
 use Rattle.tree_file.specs.Reading as reader
 use Rattle.tree_file.proofs.RoundTrips.{spelling-of-read}
@@ -28,10 +29,12 @@ use Rattle.policy.specs.TakeTree.{TreeTaken}
 
 -- ---- what the reader said
 
-module _ (s : List ℕ) (a b : ℕ) where
-  -- the nodes of a tree that was read are three words each, and they and the pool are within the rooms a and b
+module _ (word s : List ℕ) (a b : ℕ) where
+  -- the nodes of a tree that was read, or of a part, are three words each, and they and the pool are within the rooms a
+  -- and b
   pub tree-sizes :
-      (t : Reading Tree) → treeIn s ≡ t → readVerdict t a b ≡ verdict.Fine → {k m p : ℕ} → k ∷ m ∷ p ∷ [] ≡ valuesIn t →
+      (t : Reading Tree) → fileIn word s ≡ t → readVerdict t a b ≡ verdict.Fine → {k m p : ℕ} →
+      k ∷ m ∷ p ∷ [] ≡ valuesIn t →
       (m * nodeWords ≡ length (nodesIn t)) × (p ≡ length (poolIn t)) × (m * nodeWords ≤ a)
   unfolding roomFor
   tree-sizes (refused why) q e z = refused-not-fine e
@@ -60,7 +63,7 @@ module _ (s : List ℕ) {nodes pool nodes′ pool′ : List ℕ} {r : Read} (t :
     sizes :
         (m * nodeWords ≡ length (nodesIn (treeIn s))) × (p ≡ length (poolIn (treeIn s))) ×
         (m * nodeWords ≤ length nodes)
-    sizes = tree-sizes s (length nodes) (length pool) (treeIn s) refl (says .0) (says .1)
+    sizes = tree-sizes treeWord s (length nodes) (length pool) (treeIn s) refl (says .0) (says .1)
 
     -- its nodes, three words each, and its pool
     pub tree-found : TreeTaken (some s) nodes pool (Words (m * nodeWords) p) nodes′ pool′

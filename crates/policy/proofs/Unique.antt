@@ -5,8 +5,10 @@ use Rattle.refusals.specs.Promises.{Apart}
 use Rattle.refusals.proofs.Unique.{on-paper-unique, refusal-not-success}
 use Rattle.policy.specs.declared.list.Listed.the-variants.{Refused, Words}
 use Rattle.policy.specs.declared.tree.Taken.the-variants as taken
+use Rattle.policy.specs.declared.part.Begun.the-variants as begun
 use Rattle.policy.specs.TakeList.{paper}
 use Rattle.policy.specs.TakeTree as tree
+use Rattle.policy.specs.TakePart as part
 
 -- answers for the list of the rule file
 pub listed-apart : Apart paper
@@ -21,3 +23,10 @@ taken-apart (taken.Refused a) (taken.Refused b) e = ap taken.Refused (on-paper-u
 taken-apart (taken.Refused a) (taken.Words n p) e = refusal-not-success e
 taken-apart (taken.Words n p) (taken.Refused b) e = refusal-not-success (sym e)
 taken-apart (taken.Words n p) (taken.Words m q) e = cc
+
+-- answers for the part of the part file
+pub begun-apart : Apart part.paper
+begun-apart (begun.Refused a) (begun.Refused b) e = ap begun.Refused (on-paper-unique a b e)
+begun-apart (begun.Refused a) (begun.Words k n p) e = refusal-not-success e
+begun-apart (begun.Words k n p) (begun.Refused b) e = refusal-not-success (sym e)
+begun-apart (begun.Words k n p) (begun.Words j m q) e = cc

@@ -1,7 +1,8 @@
--- What the two files say. Definitions only. A file is its bytes; or none, where it was not read to its end.
+-- What the files say. Definitions only. A file is its bytes; or none, where it was not read to its end.
 --   textIn f buffer    what was read of a file: none, or the bytes in front of the buffer
 --   listIn f           the list that the rule file f holds: 12 where it was not read, else what its text says
 --   treeOf f           the tree that the tree file f holds, in the same way
+--   partOf f           the part that the part file f holds
 --   ListOfFile rs      rs is the list that some rule file holds
 --   mostFile           the most bytes of a file that the programs read
 use Prim.Native.Nat.{ℕ}
@@ -12,7 +13,7 @@ use lib.ListN.{take}
 use Rattle.refusals.specs.declared.Refusal.the-variants.{FileNotRead}
 use Rattle.text.specs.Text.{Reading, good, refused}
 use Rattle.rule_file.specs.RuleText.{rulesIn}
-use Rattle.tree_file.specs.TreeText.{Tree, treeIn}
+use Rattle.tree_file.specs.TreeText.{Tree, treeIn, partIn}
 use Rattle.policy.specs.declared.file.File.{File}
 use Rattle.policy.specs.declared.file.File.the-variants.{NotRead, Bytes}
 
@@ -29,6 +30,9 @@ listIn f = readBy rulesIn f
 
 unfoldable pub treeOf : Option (List ℕ) → Reading Tree
 treeOf f = readBy treeIn f
+
+unfoldable pub partOf : Option (List ℕ) → Reading Tree
+partOf f = readBy partIn f
 
 abbrev pub ListOfFile : List ℕ → Type 0
 ListOfFile rs = (f : Option (List ℕ)) × (listIn f ≡ good rs)

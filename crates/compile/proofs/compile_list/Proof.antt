@@ -1,11 +1,11 @@
--- `compile::main` is safe, and what it hands on is the list of a file. Assumes nothing.
+-- `compile::compile_list` is safe, and what it hands on is the list of a file. Assumes nothing.
 use native.Mathlib.Omega.{arith}
 use mathlib.Core.Path.{sym}
 use lib.Seq.{length-take-le}
 use borrow.Author.Needs.{needs}
 use Rattle.policy.proofs.Listing.{list-handed}
-use Rattle.compile.proofs.main.Statement.{statement}
-use Rattle.compile.proofs.main.Tie as tie
+use Rattle.compile.proofs.compile_list.Statement.{statement}
+use Rattle.compile.proofs.compile_list.Tie as tie
 
 slice-aggregate-load : tie.Need-slice-aggregate-load
 slice-aggregate-load c = search needs
@@ -39,17 +39,17 @@ array-share-prefix-rules c =
     let w = c .before .before .before .before in
     list-handed _ (w .take-list .ensures) (c .before .words .given .1) .1
 
-slice-aggregate-write-tree : tie.Need-slice-aggregate-write-tree
-slice-aggregate-write-tree c =
+slice-aggregate-write-asked : tie.Need-slice-aggregate-write-asked
+slice-aggregate-write-asked c =
     let w = c .before .before in
     let v = w .before .before .before in
     sym (length-take-le _ _ (list-handed _ (v .take-list .ensures) (w .words .given .1) .1))
 
-slice-aggregate-write-tree-2 : tie.Need-slice-aggregate-write-tree-2
-slice-aggregate-write-tree-2 c = search needs
+slice-aggregate-write-asked-2 : tie.Need-slice-aggregate-write-asked-2
+slice-aggregate-write-asked-2 c = search needs
 
-write-tree-requires : tie.Need-write-tree-requires
-write-tree-requires c κs =
+write-asked-requires : tie.Need-write-asked-requires
+write-asked-requires c κs =
     let w = c .before .before .before in
     let v = w .before .before .before in
     (list-handed _ (v .take-list .ensures) (w .words .given .1) .0, omega arith)
@@ -60,8 +60,8 @@ returns c = search needs
 returns-2 : tie.Need-returns-2
 returns-2 c = search needs
 
-pub main-spec : {M : Type 1} → statement M
-main-spec =
+pub compile-list-spec : {M : Type 1} → statement M
+compile-list-spec =
     tie.close
     (tie.spec
     slice-aggregate-load
@@ -74,8 +74,8 @@ main-spec =
     say-verdict-requires
     enum-known-words
     array-share-prefix-rules
-    slice-aggregate-write-tree
-    slice-aggregate-write-tree-2
-    write-tree-requires
+    slice-aggregate-write-asked
+    slice-aggregate-write-asked-2
+    write-asked-requires
     returns
     returns-2)

@@ -1,0 +1,2 @@
+-- The number that an argument of the compiler says.
+pub mod TellsNumber

@@ -1,0 +1,61 @@
+-- What the compiler writes in steps, from the bytes of its two files. Definitions only.
+--   partVerdict rs p      what is refused of the part p that a file holds, for the list rs
+--   textOr v s            the text s; the line of a refusal where v refuses
+--   firstStep rs most     what is written of a step from nothing
+--   nextStep rs p most    of a step from the part p: where p is refused its line, and then what is written of a step
+--                         from nothing
+--   firstOutput f most    all that is written of a step from nothing, f being the rule file: a refused list has its
+--                         line
+--   nextOutput f g most   the same of a step from the part file g
+--   PartRefused rs why    the part of some file is refused so, for the list rs
+--   PartTakenOn rs n part kept    some file holds this part, and a compile of the list rs goes on from it
+use Prim.Native.Nat.{ℕ}
+use mathlib.Core.Path.{_≡_}
+use mathlib.Core.List.{List, _++_}
+use mathlib.Core.Option.{Option}
+use Rattle.refusals.specs.declared.Refusal.{Refusal}
+use Rattle.refusals.specs.declared.Verdict.{Verdict}
+use Rattle.refusals.specs.declared.Verdict.the-variants.{Fine, Refused}
+use Rattle.refusals.specs.Order.{_then_}
+use Rattle.tree_check.specs.PartCheck.{soFarVerdict}
+use Rattle.text.specs.Text.{Reading, good}
+use Rattle.tree_file.specs.TreeText.{Tree, tree}
+use Rattle.tree_file.specs.Reading.{nodesIn, poolIn}
+use Rattle.policy.specs.Files.{listIn, partOf}
+use Rattle.policy.specs.Output.{ownVerdict, verdictLine, onList}
+use Rattle.policy.specs.TakePart.{madeFor}
+use Rattle.policy.specs.Steps.{someVerdict, someText, onVerdict, onText}
+
+unfoldable pub partVerdict : List ℕ → Reading Tree → Verdict
+partVerdict rs p = ownVerdict p then soFarVerdict rs (madeFor p) (nodesIn p) (poolIn p)
+
+abbrev pub textOr : Verdict → List ℕ → List ℕ
+textOr Fine s = s
+textOr (Refused why) s = verdictLine (Refused why)
+
+abbrev pub firstStep : List ℕ → ℕ → List ℕ
+firstStep rs most = textOr (someVerdict rs most) (someText rs most)
+
+abbrev pub onPart : Verdict → List ℕ → List ℕ → List ℕ
+onPart Fine on anew = on
+onPart (Refused why) on anew = verdictLine (Refused why) ++ anew
+
+unfoldable pub nextStep : List ℕ → Reading Tree → ℕ → List ℕ
+nextStep rs p most =
+    let part = nodesIn p in
+    let kept = poolIn p in
+    onPart (partVerdict rs p) (textOr (onVerdict rs (madeFor p) part kept most) (onText rs part kept most))
+    (firstStep rs most)
+
+unfoldable pub firstOutput : Option (List ℕ) → ℕ → List ℕ
+firstOutput f most = onList (listIn f) (λ rs. firstStep rs most)
+
+unfoldable pub nextOutput : Option (List ℕ) → Option (List ℕ) → ℕ → List ℕ
+nextOutput f g most = onList (listIn f) (λ rs. nextStep rs (partOf g) most)
+
+abbrev pub PartRefused : List ℕ → Refusal → Type 0
+PartRefused rs why = (g : Option (List ℕ)) × (partVerdict rs (partOf g) ≡ Refused why)
+
+abbrev pub PartTakenOn : List ℕ → ℕ → List ℕ → List ℕ → Type 0
+PartTakenOn rs n part kept =
+    (g : Option (List ℕ)) × (partOf g ≡ good (tree n part kept)) × (partVerdict rs (partOf g) ≡ Fine)

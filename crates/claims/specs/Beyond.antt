@@ -1,7 +1,7 @@
 -- Beyond the scope: what the program writes, from the bytes of its two files and of its input; and the file that a list
 -- is compiled into, at once and in steps. A file is its bytes; or none, where it was not read to its end. Statements
 -- only.
-use Prim.Native.Nat.{ℕ, _≤_}
+use Prim.Native.Nat.{ℕ, _+_, _≤_, _<_, max}
 use mathlib.Core.Logic.{_↔_}
 use mathlib.Core.Path.{_≡_}
 use mathlib.Core.List.{List, _++_}
@@ -9,14 +9,18 @@ use mathlib.Core.Option.{Option, some}
 use lib.ListN.{length}
 use Rattle.refusals.specs.declared.Refusal.{Refusal}
 use Rattle.refusals.specs.declared.Verdict.the-variants.{Fine, Refused}
+use Rattle.rules.specs.Words.{ruleCount}
+use Rattle.rules.specs.Good.{listVerdict}
+use Rattle.built.specs.Layout.{size}
+use Rattle.built.specs.BuiltTree.{builtTree}
 use Rattle.text.specs.Text.{good, refused}
 use Rattle.console.specs.declared.gather.Gathering.{Gathering}
 use Rattle.console.specs.Gathered.{begun, after, answers, lastReply, inputReplies}
 use Rattle.policy.specs.Files.{listIn, treeOf, partOf, mostFile}
 use Rattle.policy.specs.Output.{servingVerdict, byList, verdictLine, output, TreeServes}
 use Rattle.policy.specs.Compiled.{largestBuild, builtText}
-use Rattle.policy.specs.Steps.{someVerdict, someText, onVerdict, onText}
-use Rattle.policy.specs.StepOutput.{partVerdict, firstOutput, nextOutput}
+use Rattle.policy.specs.Steps.{stepText, stepVerdict, someVerdict, someText, onVerdict, onText}
+use Rattle.policy.specs.StepOutput.{partVerdict, textOr, grownTo, firstStep, nextStep, firstOutput, nextOutput}
 
 pub record Program : Type 0 where
   -- a rule file that is refused has its line written, and nothing else
@@ -53,3 +57,12 @@ pub record Program : Type 0 where
       (rs : List ℕ) (n : ℕ) (part kept : List ℕ) (most : ℕ) →
       (someVerdict rs most ≡ Fine → length (someText rs most) ≤ mostFile) ×
       (onVerdict rs n part kept most ≡ Fine → length (onText rs part kept most) ≤ mostFile)
+  -- a first step writes what is grown to that many nodes; a step on from the text of one that stopped, what is grown
+  -- to as many as both; and where that is the whole tree, it is what is written of the list at once
+  pub step-first : (rs : List ℕ) (most : ℕ) → firstStep rs most ≡ grownTo rs (max most 1)
+  pub step-on :
+      (rs : List ℕ) (k most : ℕ) → 0 < k → k < size (builtTree rs) →
+      stepVerdict (listVerdict rs) k (builtTree rs) ≡ Fine →
+      nextStep rs (partOf (some (stepText (ruleCount rs) k (builtTree rs)))) most ≡ grownTo rs (k + max most 1)
+  pub step-last :
+      (rs : List ℕ) (e : ℕ) → size (builtTree rs) ≤ e → grownTo rs e ≡ textOr (largestBuild rs) (builtText rs)

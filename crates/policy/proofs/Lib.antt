@@ -17,3 +17,4 @@ pub mod StepWords
 pub mod StepTexts
 pub mod StepSize
 pub mod StepOutputs
+pub mod StepChain

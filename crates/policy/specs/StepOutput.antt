@@ -1,6 +1,7 @@
 -- What the compiler writes in steps, from the bytes of its two files. Definitions only.
 --   partVerdict rs p      what is refused of the part p that a file holds, for the list rs
 --   textOr v s            the text s; the line of a refusal where v refuses
+--   grownTo rs e          what is written of the nodes of the list's tree below e
 --   firstStep rs most     what is written of a step from nothing
 --   nextStep rs p most    of a step from the part p: where p is refused its line, and then what is written of a step
 --                         from nothing
@@ -17,14 +18,17 @@ use Rattle.refusals.specs.declared.Refusal.{Refusal}
 use Rattle.refusals.specs.declared.Verdict.{Verdict}
 use Rattle.refusals.specs.declared.Verdict.the-variants.{Fine, Refused}
 use Rattle.refusals.specs.Order.{_then_}
+use Rattle.rules.specs.Words.{ruleCount}
+use Rattle.rules.specs.Good.{listVerdict}
 use Rattle.tree_check.specs.PartCheck.{soFarVerdict}
+use Rattle.built.specs.BuiltTree.{builtTree}
 use Rattle.text.specs.Text.{Reading, good}
 use Rattle.tree_file.specs.TreeText.{Tree, tree}
 use Rattle.tree_file.specs.Reading.{nodesIn, poolIn}
 use Rattle.policy.specs.Files.{listIn, partOf}
 use Rattle.policy.specs.Output.{ownVerdict, verdictLine, onList}
 use Rattle.policy.specs.TakePart.{madeFor}
-use Rattle.policy.specs.Steps.{someVerdict, someText, onVerdict, onText}
+use Rattle.policy.specs.Steps.{stepText, stepVerdict, someVerdict, someText, onVerdict, onText}
 
 unfoldable pub partVerdict : List ℕ → Reading Tree → Verdict
 partVerdict rs p = ownVerdict p then soFarVerdict rs (madeFor p) (nodesIn p) (poolIn p)
@@ -32,6 +36,10 @@ partVerdict rs p = ownVerdict p then soFarVerdict rs (madeFor p) (nodesIn p) (po
 abbrev pub textOr : Verdict → List ℕ → List ℕ
 textOr Fine s = s
 textOr (Refused why) s = verdictLine (Refused why)
+
+abbrev pub grownTo : List ℕ → ℕ → List ℕ
+grownTo rs e =
+    textOr (stepVerdict (listVerdict rs) e (builtTree rs)) (stepText (ruleCount rs) e (builtTree rs))
 
 abbrev pub firstStep : List ℕ → ℕ → List ℕ
 firstStep rs most = textOr (someVerdict rs most) (someText rs most)

@@ -13,7 +13,7 @@ use Rattle.facts.proofs.Setting.{written-front}
 use Rattle.refusals.specs.declared.Refusal.{Refusal}
 use Rattle.refusals.specs.declared.Verdict.the-variants.{Fine}
 use Rattle.refusals.proofs.Order.{leaving-refused, leaving-fine}
-use Rattle.rules.specs.Words.{mostRules, ruleCount}
+use Rattle.rules.specs.Words.{mostRules, ruleCount, largestAction}
 use Rattle.rules.proofs.Lists.{GoodRules}
 use Rattle.trees.specs.Words.{nodeWords, mostNodes, mostPool}
 use Rattle.trees.specs.Spelt.{Spelt}
@@ -41,7 +41,7 @@ room-rooted a b e q h w =
 
 -- the boxes of a good list are as many as its rules: no more than there may be, and what is spelt for one is for both
 pub boxes-ready :
-    (rs ws : List ℕ) {standing kept : List ℕ} → GoodRules rs → length ws ≡ mostRules * boxWords →
+    (rs ws : List ℕ) {standing kept : List ℕ} → GoodRules largestAction rs → length ws ≡ mostRules * boxWords →
     Spelt (ruleCount rs) standing kept →
     (boxCount (take (ruleCount rs * boxWords) ws) ≤ mostRules) ×
     Spelt (boxCount (take (ruleCount rs * boxWords) ws)) standing kept

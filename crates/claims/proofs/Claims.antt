@@ -2,7 +2,9 @@
 use Rattle.claims.specs.Claims.{Claims}
 use Rattle.claims.proofs.Demand1.{code-claim, calls-claim}
 use Rattle.claims.proofs.Demand2.{twins-claim, matching-claim, by-tree-claim}
-use Rattle.claims.proofs.Demand2.{rule-file-claim, tree-file-claim, part-file-claim, tree-or-part-claim}
+use Rattle.claims.proofs.Demand2.{rule-file-claim, rule-kind-claim}
+use Rattle.claims.proofs.Demand2.{tree-file-claim, part-file-claim, tree-or-part-claim}
+use Rattle.claims.proofs.Actions.{actions-claim}
 use Rattle.claims.proofs.Demand3.{tree-check-claim}
 use Rattle.claims.proofs.Parts.{part-check-claim}
 use Rattle.claims.proofs.Compiler.{compiler-claim}
@@ -17,8 +19,10 @@ claims =
       calls = calls-claim;
       twins = twins-claim;
       matching = matching-claim;
+      actions = actions-claim;
       by-tree = by-tree-claim;
       rule-file = rule-file-claim;
+      rule-kind = rule-kind-claim;
       tree-file = tree-file-claim;
       part-file = part-file-claim;
       tree-or-part = tree-or-part-claim;

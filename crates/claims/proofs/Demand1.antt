@@ -57,6 +57,7 @@ code-claim = (
   in-check.check.tree_check.Met.met,
   in-check.part.part_check.Met.met,
   in-rule-file.write.rules_write.Met.met,
+  in-rule-file.write.acl_write.Met.met,
   in-rule-file.read.rules_read.Met.met,
   in-tree-file.write.tree_write.Met.met,
   in-tree-file.read.tree_read.Met.met,
@@ -86,6 +87,7 @@ code-claim = (
   exports.tree.wick_tree_first.Met.met,
   exports.tree.wick_tree_check.Met.met,
   exports.rule_text.wick_rules_write.Met.met,
+  exports.rule_text.wick_acl_write.Met.met,
   exports.rule_text.wick_rules_read.Met.met,
   exports.tree_text.wick_tree_write.Met.met,
   exports.tree_text.wick_tree_read.Met.met,
@@ -141,6 +143,7 @@ calls-claim =
       tree-first = λ rs ns es h r s p q. says-unique trees.first-apart p q;
       tree-check = λ rs ns es r s p q. says-unique answer-apart p q;
       rules-write = λ rs w. writes-only written-apart (λ r a p. p) (λ e. refl);
+      acl-write = λ rs w. writes-only written-apart (λ r a p. p) (λ e. refl);
       rules-read = λ s w. writes-only rules-apart (λ r a p. p) (λ e. words-whole s (rulesIn s) refl);
       tree-write = λ k ns es w. writes-only written-apart (λ r a p. p) (λ e. refl);
       tree-read = file-read treeWord;

@@ -1,7 +1,8 @@
 -- Demand 2 holds.
 use Prim.Native.Nat.{ℕ}
-use mathlib.Core.Path.{_≡_}
-use mathlib.Core.List.{List}
+use native.Mathlib.Omega.{arith}
+use mathlib.Core.Path.{_≡_, ap}
+use mathlib.Core.List.{List, _++_}
 use Rattle.rules.proofs.EqualWords.{same-iff}
 use Rattle.rules.proofs.Lists.{fine-iff-apart, eleven-iff, eleven-at-iff}
 use Rattle.rules.proofs.Meaning.{matches-iff-inside}
@@ -11,18 +12,22 @@ use Rattle.tree_check.specs.Serves.{Serves}
 use Rattle.tree_check.proofs.Accepts.{accepts-iff-serves}
 use Rattle.tree_check.proofs.Searches.{refuses-none, same-list, same-verdict, same-words, same-first}
 use Rattle.text.specs.Words.{treeWord, partWord}
-use Rattle.text.specs.Text.{good}
+use Rattle.text.specs.Text.{Reading, good, refused}
 use Rattle.text.proofs.Plain.{Plain}
+use Rattle.rule_file.specs.declared.kind.Kind.{Kind}
+use Rattle.rule_file.specs.Kinds.{kindOf}
+use Rattle.rule_file.specs.RuleText.{rulesIn}
 use Rattle.rule_file.proofs.ReadTwins.{read-eleven-iff}
-use Rattle.rule_file.proofs.RoundTrips.{read-of-written as rules-back, written-of-read as rules-exact, good-of-read}
-use Rattle.rule_file.proofs.RoundTrips.{below-of-read as rules-below, cut-refused as rules-cut}
+use Rattle.rule_file.proofs.RoundTrips.{read-of-written as rules-back, written-of-read as rules-exact, fine-of-read}
+use Rattle.rule_file.proofs.RoundTrips.{below-of-read as rules-below, cut-refused as rules-cut, kind-of-lines}
 use Rattle.tree_file.specs.TreeText.{Tree, tree, fileIn}
 use Rattle.tree_file.specs.TreeLines.{fileTextOf, Fits}
 use Rattle.tree_file.proofs.RoundTrips.{read-of-written as tree-back, written-of-read as tree-exact}
 use Rattle.tree_file.proofs.RoundTrips.{spelling-of-read, below-of-read, cut-refused as tree-cut}
 use Rattle.tree_file.proofs.RoundTrips.{tree-plain, part-plain}
 use Rattle.tree_file.proofs.FirstWords.{tree-not-part, part-not-tree}
-use Rattle.claims.specs.Demand2.{Twins, Matching, ByTree, File, RuleFile, TreeFile, PartFile, TreeOrPart}
+use Rattle.claims.specs.Demand2.{Twins, Matching, ByTree, File, ListFile, kindAnd, RuleFile, RuleKind}
+use Rattle.claims.specs.Demand2.{TreeFile, PartFile, TreeOrPart}
 
 pub twins-claim : Twins
 twins-claim =
@@ -55,13 +60,30 @@ by-tree-claim rs ns es s =
       lists = same-list rs ns es ok;
     }
 
+-- ---- the list file, of either kind
+
+kind-and :
+    (k : Kind) (a : Reading (List ℕ)) (w : ListFile) → kindAnd k a ≡ good w → (k ≡ w .0) × (a ≡ good (w .1))
+kind-and k (good ws) w e =
+    let q : (k, ws) ≡ w = cc in
+    (ap (λ (x : ListFile). x .0) q, ap (λ (x : ListFile). good (x .1)) q)
+kind-and k (refused why) w e = let z : _≡_ {A = ℕ} 0 1 = cc in absurd (omega arith)
+
 pub rule-file-claim : RuleFile
 rule-file-claim =
     record {
-      back = λ ws f. rules-back ws (f .0) (f .1);
-      exact = λ s ws e. (rules-exact s ws e, (good-of-read s ws e, rules-below s ws e));
-      cut = rules-cut;
+      back = λ w f. let t = rules-back (w .0) (w .1) (f .0) (f .1) in rw (t .0, t .1);
+      exact = λ s w e.
+          let t = kind-and (kindOf s) (rulesIn s) w e in (
+            rw (← t .0) (rules-exact s (w .1) (t .1)),
+            (rw (← t .0) (fine-of-read s (w .1) (t .1)), rules-below s (w .1) (t .1)),
+          );
+      cut = λ p q w e more.
+          let t = kind-and (kindOf (p ++ q)) (rulesIn (p ++ q)) w e in rw (rules-cut p q (w .1) (t .1) more);
     }
+
+pub rule-kind-claim : RuleKind
+rule-kind-claim = kind-of-lines
 
 -- ---- the tree file and the part file, whatever the first word
 

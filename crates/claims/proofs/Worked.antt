@@ -9,7 +9,7 @@ use Rattle.fields.specs.Headers.{fieldVerdict, headerVerdict}
 use Rattle.fields.specs.Prefixes.{span, prefixGood, prefixAgrees, prefixEnds}
 use Rattle.fields.specs.Ranges.{rangeGood, rangeHolds, rangesMeet}
 use Rattle.rules.specs.Twins.{sameWords, earlierTwin, twinVerdict, twinsVerdict}
-use Rattle.rules.specs.Good.{good, ruleVerdict, rulesVerdict, listVerdict}
+use Rattle.rules.specs.Good.{fieldsGood, goodTo, ruleVerdict, rulesVerdict, listVerdictTo}
 use Rattle.rules.specs.Lacking.{lacking, lowestLacking}
 use Rattle.rules.specs.Matching.{matches, matching, ruleBox}
 use Rattle.rules.specs.LineAll.{allVerdict}
@@ -25,8 +25,8 @@ use Rattle.claims.specs.Worked.{AllHold, table}
 pub worked : AllHold table
 unfolding allBelow lowest upFrom keep has rises allUnder refuseUnless roomVerdict _then_ inTurn _giving_ meets
     divides leftOf rightOf fieldVerdict headerVerdict span prefixGood prefixAgrees prefixEnds rangeGood
-    rangeHolds rangesMeet sameWords earlierTwin twinVerdict twinsVerdict good ruleVerdict rulesVerdict listVerdict
-    lacking lowestLacking matches matching ruleBox entries
+    rangeHolds rangesMeet sameWords earlierTwin twinVerdict twinsVerdict fieldsGood goodTo ruleVerdict rulesVerdict
+    listVerdictTo lacking lowestLacking matches matching ruleBox entries
     leaving written allVerdict sizeVerdict sideOf stepOf walk walkOf leafVerdict reachVerdict leafList treeList
     lookedAt treeAllVerdict leafCount countsBelow leafSpelt nodeVerdict speltVerdict lackOf leafPart cutPart
     nodePart preorderOf rootPart wordsVerdict checkVerdict

@@ -3,7 +3,8 @@ use Prim.Native.Nat.{ℕ}
 use mathlib.Core.List.{List}
 use Rattle.tree_check.specs.Serves.{Serves}
 use Rattle.claims.specs.Demand1.{Code, Calls}
-use Rattle.claims.specs.Demand2.{Twins, Matching, ByTree, RuleFile, TreeFile, PartFile, TreeOrPart}
+use Rattle.claims.specs.Demand2.{Twins, Matching, ByTree, RuleFile, RuleKind, TreeFile, PartFile, TreeOrPart}
+use Rattle.claims.specs.Actions.{Actions}
 use Rattle.claims.specs.Demand3.{TreeCheck}
 use Rattle.claims.specs.Parts.{PartCheck}
 use Rattle.claims.specs.Compiler.{Compiler}
@@ -16,8 +17,10 @@ pub record Claims : Type 2 where
   pub calls : Calls
   pub twins : Twins
   pub matching : Matching
+  pub actions : Actions
   pub by-tree : (rs ns es : List ℕ) → Serves rs ns es → ByTree rs ns es
   pub rule-file : RuleFile
+  pub rule-kind : RuleKind
   pub tree-file : TreeFile
   pub part-file : PartFile
   pub tree-or-part : TreeOrPart

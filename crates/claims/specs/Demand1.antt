@@ -33,7 +33,8 @@ Code M =
     in-rules.line.scan_first.Statement.statement M × in-trees.search.tree_all.Statement.statement M ×
     in-trees.search.tree_first.Statement.statement M × in-check.check.tree_check.Statement.statement M ×
     in-check.part.part_check.Statement.statement M ×
-    in-rule-file.write.rules_write.Statement.statement M × in-rule-file.read.rules_read.Statement.statement M ×
+    in-rule-file.write.rules_write.Statement.statement M × in-rule-file.write.acl_write.Statement.statement M ×
+    in-rule-file.read.rules_read.Statement.statement M ×
     in-tree-file.write.tree_write.Statement.statement M × in-tree-file.read.tree_read.Statement.statement M ×
     in-tree-file.write.part_write.Statement.statement M × in-tree-file.read.part_read.Statement.statement M ×
     in-builder.build.build.Statement.statement M × in-builder.step.build_some.Statement.statement M ×
@@ -48,6 +49,7 @@ Code M =
     exports.line.wick_scan_all.Statement.statement M × exports.line.wick_scan_first.Statement.statement M ×
     exports.tree.wick_tree_all.Statement.statement M × exports.tree.wick_tree_first.Statement.statement M ×
     exports.tree.wick_tree_check.Statement.statement M × exports.rule_text.wick_rules_write.Statement.statement M ×
+    exports.rule_text.wick_acl_write.Statement.statement M ×
     exports.rule_text.wick_rules_read.Statement.statement M × exports.tree_text.wick_tree_write.Statement.statement M ×
     exports.tree_text.wick_tree_read.Statement.statement M × exports.tree_text.wick_part_write.Statement.statement M ×
     exports.tree_text.wick_part_read.Statement.statement M × exports.compiler.wick_build.Statement.statement M ×
@@ -64,6 +66,7 @@ pub record Calls : Type 0 where
   pub tree-first : (rs ns es h : List ℕ) → Fixes (trees.TreeFirst.TreeFirstSearched rs ns es h)
   pub tree-check : (rs ns es : List ℕ) → Fixes (tree-check.TreeCheck.TreeChecked rs ns es)
   pub rules-write : (rs w : List ℕ) → WritesOnly w (rule-file.Writing.RulesWritten rs w) text.Said.paper (value 0)
+  pub acl-write : (rs w : List ℕ) → WritesOnly w (rule-file.Writing.AclWritten rs w) text.Said.paper (value 0)
   pub rules-read : (s w : List ℕ) →
       WritesOnly w (rule-file.Reading.RulesRead s w) rule-file.Reading.paper (λ vs. value 0 vs * rules.Words.ruleWords)
   pub tree-write :

@@ -14,33 +14,38 @@ use Rattle.fields.specs as fields
 use Rattle.rules.specs as rules
 use Rattle.rules.specs.declared.line.Listed.{Listed}
 use Rattle.rules.specs.Twins.{sameWords, Alike, NoTwins, FirstTwins}
-use Rattle.rules.specs.Good.{rulesVerdict, listVerdict}
+use Rattle.rules.specs.Words.{matchWords, ruleCount, wordOf}
+use Rattle.rules.specs.Good.{good, rulesVerdict, listVerdictTo, listVerdict}
 use Rattle.rules.specs.Matching.{matches, matching, ruleBox}
 use Rattle.rules.specs.LineFirst.{firstOf}
 use Rattle.trees.specs as trees
 use Rattle.trees.specs.declared.search.TreeListed.{TreeListed}
 use Rattle.text.specs.Line.{EachUnder}
 use Rattle.text.specs.Text as text
-use Rattle.rule_file.specs.RuleText.{linesIn, rulesIn, rulesText}
+use Rattle.rule_file.specs.declared.kind.Kind.{Kind}
+use Rattle.rule_file.specs.Kinds.{mostAction, kindOf}
+use Rattle.rule_file.specs.ListText.{listIn}
+use Rattle.rule_file.specs.RuleText.{formatOf, linesIn, rulesIn, textOf as listText}
 use Rattle.tree_file.specs.TreeText.{Tree, treeIn, partIn}
 use Rattle.tree_file.specs.TreeLines.{textOf, partTextOf, Fits}
 
--- two rules are twins where they have the same word at each place; a list is fine exactly where it is without them and
--- 1 and 2 do not refuse it; where they do not, it is refused with 11 exactly if it has twins: the place is the lowest
--- rule with a twin before it, and the extra that one, the only one; and so is a text whose lines read well
+-- two rules are twins where they have the same word at each place but the action's; a list is fine exactly where it is
+-- without them and 1 and 2 do not refuse it; where they do not, it is refused with 11 exactly if it has twins: the place
+-- is the lowest rule with a twin before it, and the extra that one, the only one; and so is a text whose lines read well
 pub record Twins : Type 0 where
   pub words :
       (rs : List ℕ) (q r : ℕ) →
       (sameWords rs q r ≡ true) ↔
-      ((j : ℕ) → j < rules.Words.ruleWords → rules.Words.wordOf rs q j ≡ rules.Words.wordOf rs r j)
-  pub none : (rs : List ℕ) → (listVerdict rs ≡ Fine) ↔ ((rulesVerdict rs ≡ Fine) × NoTwins rs)
+      ((j : ℕ) → j < matchWords → wordOf rs q j ≡ wordOf rs r j)
+  pub none :
+      (most : ℕ) (rs : List ℕ) → (listVerdictTo most rs ≡ Fine) ↔ ((rulesVerdict most rs ≡ Fine) × NoTwins rs)
   pub eleven :
-      (rs : List ℕ) →
-      ((r : ℕ) × (q : ℕ) × (listVerdict rs ≡ Refused (RuleHasTwin r q))) ↔
-      ((rulesVerdict rs ≡ Fine) × ((r : ℕ) × (q : ℕ) × Alike rs q r))
+      (most : ℕ) (rs : List ℕ) →
+      ((r : ℕ) × (q : ℕ) × (listVerdictTo most rs ≡ Refused (RuleHasTwin r q))) ↔
+      ((rulesVerdict most rs ≡ Fine) × ((r : ℕ) × (q : ℕ) × Alike rs q r))
   pub eleven-at :
-      (rs : List ℕ) (r q : ℕ) →
-      (listVerdict rs ≡ Refused (RuleHasTwin r q)) ↔ ((rulesVerdict rs ≡ Fine) × FirstTwins rs r q)
+      (most : ℕ) (rs : List ℕ) (r q : ℕ) →
+      (listVerdictTo most rs ≡ Refused (RuleHasTwin r q)) ↔ ((rulesVerdict most rs ≡ Fine) × FirstTwins rs r q)
   pub in-text :
       (s : List ℕ) (r q : ℕ) →
       (rulesIn s ≡ text.refused (RuleHasTwin r q)) ↔
@@ -51,13 +56,13 @@ pub record Twins : Type 0 where
 pub record Matching : Type 0 where
   pub listed :
       (rs h : List ℕ) (r : ℕ) →
-      (has (matching rs h) r ≡ true) ↔ ((r < rules.Words.ruleCount rs) × (matches rs h r ≡ true))
+      (has (matching rs h) r ≡ true) ↔ ((r < ruleCount rs) × (matches rs h r ≡ true))
   pub rising : (rs h : List ℕ) → rises 0 (matching rs h) ≡ true
   pub lowest :
       (rs h : List ℕ) (r : ℕ) (rest : List ℕ) → matching rs h ≡ r ∷ rest → (q : ℕ) → q < r → matches rs h q ≡ false
   pub scan : (rs h : List ℕ) → listVerdict rs ≡ Fine → rules.Scan.scanned rs h ≡ matching rs h
   pub box :
-      (rs : List ℕ) (r : ℕ) → rules.Good.good rs r ≡ true → (h : List ℕ) →
+      (rs : List ℕ) (r : ℕ) → good rs r ≡ true → (h : List ℕ) →
       (matches rs h r ≡ true) ↔ fields.Boxes.Inside fields.Words.fieldCount (ruleBox rs r) h
 
 -- by a tree that serves the list, any header and room are refused as by the list and leave the same words, and have the
@@ -68,8 +73,8 @@ pub record ByTree (rs ns es : List ℕ) : Type 0 where
       (h found : List ℕ) {r : TreeListed} {s : Listed} {v w : List ℕ} →
       trees.TreeAll.TreeAllSearched rs ns es h found r v → rules.LineAll.LineAllSearched rs h found s w → v ≡ w
   pub first :
-      (h : List ℕ) → (trees.Search.reachVerdict rs ns es h giving firstOf (trees.Search.treeList rs ns es h)) ≡
-      ((listVerdict rs then fields.Headers.headerVerdict h) giving firstOf (matching rs h))
+      (h : List ℕ) → (trees.Search.reachVerdict rs ns es h giving firstOf rs (trees.Search.treeList rs ns es h)) ≡
+      ((listVerdict rs then fields.Headers.headerVerdict h) giving firstOf rs (matching rs h))
   pub completes : (h : List ℕ) → fields.Headers.Legal h → trees.Search.reachVerdict rs ns es h ≡ Fine
   pub lists : (h : List ℕ) → fields.Headers.Legal h → trees.Search.treeList rs ns es h ≡ matching rs h
 
@@ -82,8 +87,22 @@ pub record File {W : Type 0} (read : List ℕ → text.Reading W) (write : W →
       (p q : List ℕ) (w : W) → read (p ++ q) ≡ text.good w → (q ≡ [] → ⊥) →
       read p ≡ text.refused (TextStops (length (text.linesOf (text.split p))))
 
+-- a list file is read as its kind and its words; those of a kind are fit whose actions its lines can say
+abbrev pub ListFile : Type 0
+ListFile = Kind × List ℕ
+
+abbrev pub kindAnd : Kind → text.Reading (List ℕ) → text.Reading ListFile
+kindAnd k (text.good ws) = text.good (k, ws)
+kindAnd k (text.refused why) = text.refused why
+
 abbrev pub RuleFile : Type 0
-RuleFile = File rulesIn rulesText (λ ws. (listVerdict ws ≡ Fine) × EachUnder (2 ^ 32) ws)
+RuleFile =
+    File (λ s. kindAnd (kindOf s) (rulesIn s)) (λ w. listText (w .0) (w .1))
+    (λ w. (listVerdictTo (mostAction (w .0)) (w .1) ≡ Fine) × EachUnder (2 ^ 32) (w .1))
+
+-- its kind is the one in whose format its lines read well
+abbrev pub RuleKind : Type 0
+RuleKind = (k : Kind) (s ws : List ℕ) → listIn (formatOf k) s ≡ text.good ws → kindOf s ≡ k
 
 abbrev pub TreeFile : Type 0
 TreeFile = File treeIn textOf Fits

@@ -22,11 +22,11 @@ use Rattle.tree_check.specs.TreeCheck.{TreeChecked}
 abbrev pub from : ℕ → ℕ → ℕ → ℕ → ℕ → ℕ → List ℕ
 from a b c d port protocol = (((a * 256 + b) * 256 + c) * 256 + d) ∷ 3232235521 ∷ 40000 ∷ port ∷ protocol ∷ []
 
--- from 10.0.0.0/8 to port 80, from 10.1.0.0/16 to ports 0 to 1,023, each with protocol 6; everything
+-- from 10.0.0.0/8 to port 80, from 10.1.0.0/16 to ports 0 to 1,023, each with protocol 6; everything; with action 0
 abbrev pub rules : List ℕ
 rules =
-    167772160 ∷ 8 ∷ 0 ∷ 0 ∷ 0 ∷ 65535 ∷ 80 ∷ 80 ∷ 6 ∷ 6 ∷ 167837696 ∷ 16 ∷ 0 ∷ 0 ∷ 0 ∷ 65535 ∷ 0 ∷ 1023 ∷ 6 ∷ 6 ∷
-    0 ∷ 0 ∷ 0 ∷ 0 ∷ 0 ∷ 65535 ∷ 0 ∷ 65535 ∷ 0 ∷ 255 ∷ []
+    167772160 ∷ 8 ∷ 0 ∷ 0 ∷ 0 ∷ 65535 ∷ 80 ∷ 80 ∷ 6 ∷ 6 ∷ 0 ∷ 167837696 ∷ 16 ∷ 0 ∷ 0 ∷ 0 ∷ 65535 ∷ 0 ∷ 1023 ∷ 6 ∷ 6 ∷
+    0 ∷ 0 ∷ 0 ∷ 0 ∷ 0 ∷ 0 ∷ 65535 ∷ 0 ∷ 65535 ∷ 0 ∷ 255 ∷ 0 ∷ []
 
 -- two cuts of the source address, the second with the value v, and three leaves, the second with the count k
 abbrev pub nodes : ℕ → ℕ → List ℕ
@@ -49,9 +49,9 @@ abbrev pub AllHold : List Row → Type 0
 AllHold [] = Unit {0}
 AllHold (search h ms n c f a ∷ rows) =
     (LineAllSearched rules h room (line.Found (length ms)) (written ms room) ×
-    LineFirstSearched rules h (first.Rule f) ×
+    LineFirstSearched rules h (first.Rule f 0) ×
     TreeAllSearched rules tree pool h room (tree-all.Found (length ms) n c) (written ms room) ×
-    TreeFirstSearched rules tree pool h (tree-first.Rule f n a)) × AllHold rows
+    TreeFirstSearched rules tree pool h (tree-first.Rule f 0 n a)) × AllHold rows
 AllHold (check rs ns es r ∷ rows) = TreeChecked rs ns es r × AllHold rows
 
 abbrev pub table : List Row

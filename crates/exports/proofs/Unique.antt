@@ -6,7 +6,7 @@ use Rattle.refusals.specs.Paper.{Paper}
 use Rattle.exports.specs.Answers.{asEight, InWords}
 
 -- two answers that a promise allows are equal, and so are the two states v and w of the lent outputs, whether there are
--- none, one or two. The promises of all fifteen calls (specs/Calls.antt) are instances of `InWords`
+-- none, one or two. The promises of all calls (specs/Calls.antt) are instances of `InWords`
 pub in-words-unique :
     {R W : Type 0} {words : List ℕ → List ℕ} {paper : R → Paper} {P : R → W → Type 0} {v w : W}
     {answer other : List ℕ} →

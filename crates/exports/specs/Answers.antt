@@ -2,15 +2,16 @@
 --   eight            number (0 on success), place, extra, then the values, and 0 for what is not used
 --   plainly          the values as they are
 --   countsLast       those of a tree search for all matches: its two counts behind what it found
---   firstWord ms     a first match in one word: the rule's number + 1, or 0 where none matches
---   inOneWord, firstInWords    the values of a first match by the list, and of one by a tree with its counts behind
+--   ruleIn, actionIn    a first match in two words: the rule's number + 1 and its action, or 0 and 0 where none matches
+--   firstInWords     the values of a first match by a tree: the rule, its two counts, and the action
+--   inTwoWords       those of one by the list, which has no counts: 0 stands for each
 --   InWords words paper P answer    the promise of every C function: the answer is, in eight words, an answer that the
 --                    promise P of its Rattle call allows; there is one such answer
 --   MatchFits        the number of a first match has room for one more
 use Prim.Native.Nat.{ℕ, _+_, _<_, _^_}
 use mathlib.Core.Path.{_≡_}
 use mathlib.Core.List.{List, [], _∷_, _++_}
-use lib.ListN.{take, drop, replicate}
+use lib.ListN.{getD, take, drop, replicate}
 use Rattle.refusals.specs.Paper.{Paper, refusal, success}
 use Rattle.rules.specs.declared.line.First.{First}
 use Rattle.rules.specs.declared.line.First.the-variants.{Refused, Rule, NoRule}
@@ -25,15 +26,18 @@ plainly values = values
 abbrev pub countsLast : List ℕ → List ℕ
 countsLast values = drop 2 values ++ take 2 values
 
-abbrev pub firstWord : List ℕ → ℕ
-firstWord [] = 0
-firstWord (rule ∷ rest) = rule + 1
+abbrev pub ruleIn : List ℕ → ℕ
+ruleIn [] = 0
+ruleIn (rule ∷ rest) = rule + 1
 
-abbrev pub inOneWord : List ℕ → List ℕ
-inOneWord values = firstWord values ∷ []
+abbrev pub actionIn : List ℕ → ℕ
+actionIn match = getD match 1 0
 
 abbrev pub firstInWords : List ℕ → List ℕ
-firstInWords values = firstWord (drop 2 values) ∷ take 2 values
+firstInWords values = ruleIn (drop 2 values) ∷ take 2 values ++ (actionIn (drop 2 values) ∷ [])
+
+abbrev pub inTwoWords : List ℕ → List ℕ
+inTwoWords values = firstInWords (0 ∷ 0 ∷ values)
 
 abbrev pub asEight : (List ℕ → List ℕ) → Paper → List ℕ
 asEight words (refusal number place extra) = eight (refusal number place extra)
@@ -47,5 +51,5 @@ pub record InWords {R : Type 0} (words : List ℕ → List ℕ) (paper : R → P
 
 unfoldable pub MatchFits : First → Type 0
 MatchFits (Refused why) = Unit {0}
-MatchFits (Rule number) = number < 2 ^ 32
+MatchFits (Rule number action) = number < 2 ^ 32
 MatchFits NoRule = Unit {0}

@@ -14,7 +14,7 @@ use Rattle.rule_file.specs.Reading as rules-read
 use Rattle.tree_file.specs.Writing as tree-write
 use Rattle.tree_file.specs.Reading as tree-read
 use Rattle.builder.specs.Build as build
-use Rattle.exports.specs.Answers.{plainly, countsLast, inOneWord, firstInWords, InWords}
+use Rattle.exports.specs.Answers.{plainly, countsLast, inTwoWords, firstInWords, InWords}
 
 -- the lent words and the answer of a call
 abbrev Words : Type 0
@@ -28,14 +28,14 @@ LineAllAnswered rs h found after answer =
     InWords plainly line-all.paper (λ r. line-all.LineAllSearched rs h found r after) answer
 
 abbrev pub LineFirstAnswered : Words → Words → Words → Type 0
-LineFirstAnswered rs h answer = InWords inOneWord line-first.paper (line-first.LineFirstSearched rs h) answer
+LineFirstAnswered rs h answer = InWords inTwoWords line-first.paper (line-first.LineFirstSearched rs h) answer
 
 abbrev pub ScanAllAnswered : Words → Words → Words → Words → Words → Type 0
 ScanAllAnswered rs h found after answer =
     InWords plainly line-all.paper (λ r. scan.ScanAllSearched rs h found r after) answer
 
 abbrev pub ScanFirstAnswered : Words → Words → Words → Type 0
-ScanFirstAnswered rs h answer = InWords inOneWord line-first.paper (scan.ScanFirstSearched rs h) answer
+ScanFirstAnswered rs h answer = InWords inTwoWords line-first.paper (scan.ScanFirstSearched rs h) answer
 
 abbrev pub TreeAllAnswered : Words → Words → Words → Words → Words → Words → Words → Type 0
 TreeAllAnswered rs nodes pool h found after answer =
@@ -52,6 +52,10 @@ TreeCheckAnswered rs nodes pool answer =
 abbrev pub RulesWriteAnswered : Words → Words → Words → Words → Type 0
 RulesWriteAnswered rs found after answer =
     InWords plainly said.paper (λ r. rules-write.RulesWritten rs found r after) answer
+
+abbrev pub AclWriteAnswered : Words → Words → Words → Words → Type 0
+AclWriteAnswered rs found after answer =
+    InWords plainly said.paper (λ r. rules-write.AclWritten rs found r after) answer
 
 abbrev pub RulesReadAnswered : Words → Words → Words → Words → Type 0
 RulesReadAnswered s found after answer =

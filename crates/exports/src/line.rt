@@ -7,7 +7,7 @@ ghost use mathlib.Core.Path.{_≡_};
 ghost use Rattle.rules.specs.RuleCheck as checked;
 ghost use Rattle.rules.specs.LineAll as listed;
 ghost use Rattle.rules.specs.LineFirst as first;
-ghost use Rattle.exports.specs.Answers.{plainly, inOneWord, asEight, MatchFits};
+ghost use Rattle.exports.specs.Answers.{plainly, inTwoWords, asEight, MatchFits};
 ghost use Rattle.exports.specs.Calls.{RuleCheckAnswered, LineAllAnswered, LineFirstAnswered};
 ghost use Rattle.exports.specs.Calls.{ScanAllAnswered, ScanFirstAnswered};
 
@@ -33,7 +33,7 @@ pub extern "C" fn wick_line_all(
     *answer = of_listed(rules::line::line_all(rules, header, out));
 }
 
-// The value: the lowest number that matches and one more, or 0.
+// The values: the lowest number that matches and one more, or 0; and fourth the action of its rule, or 0.
 #[no_mangle]
 pub extern "C" fn wick_line_first(rules: &[u32], header: &[u32], answer: &mut [u64; 8])
     ensures { λ _. ⌜ LineFirstAnswered (now (rules .entry)) (now (header .entry)) (now (answer .exit)) ⌝ }
@@ -55,7 +55,7 @@ pub extern "C" fn wick_scan_all(
     *answer = of_listed(rules::line::scan_all(rules, header, out));
 }
 
-// The value: the lowest number that matches and one more, or 0.
+// The values: the lowest number that matches and one more, or 0; and fourth the action of its rule, or 0.
 #[no_mangle]
 pub extern "C" fn wick_scan_first(rules: &[u32], header: &[u32], answer: &mut [u64; 8])
     ensures { λ _. ⌜ ScanFirstAnswered (now (rules .entry)) (now (header .entry)) (now (answer .exit)) ⌝ }
@@ -83,11 +83,11 @@ fn of_listed(said: Listed) -> [u64; 8]
 
 fn of_first(said: First) -> [u64; 8]
     requires { ⌜ MatchFits said ⌝ }
-    ensures { λ r. ⌜ r ≡ asEight inOneWord (first.paper said) ⌝ }
+    ensures { λ r. ⌜ r ≡ asEight inTwoWords (first.paper said) ⌝ }
 {
     match said {
         First::Refused(why) => of_refusal(why),
-        First::Rule { number } => [0, 0, 0, number as u64 + 1, 0, 0, 0, 0],
+        First::Rule { number, action } => [0, 0, 0, number as u64 + 1, 0, 0, action as u64, 0],
         First::NoRule => [0, 0, 0, 0, 0, 0, 0, 0],
     }
 }

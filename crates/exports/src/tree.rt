@@ -26,7 +26,8 @@ pub extern "C" fn wick_tree_all(
     *answer = of_listed(trees::search::tree_all(rules, nodes, pool, header, out));
 }
 
-// The values: the number of the first entry that matches and one more, or 0; the nodes visited, the entries compared.
+// The values: the number of the first entry that matches and one more, or 0; the nodes visited, the entries compared;
+// the action of its rule, or 0.
 #[no_mangle]
 pub extern "C" fn wick_tree_first(
     rules: &[u32],
@@ -70,6 +71,7 @@ fn of_first(said: TreeFirst) -> [u64; 8]
         TreeFirst::Refused(why) => of_refusal(why),
         TreeFirst::Rule {
             number,
+            action,
             visited,
             compared,
         } => [
@@ -79,7 +81,7 @@ fn of_first(said: TreeFirst) -> [u64; 8]
             number as u64 + 1,
             visited as u64,
             compared as u64,
-            0,
+            action as u64,
             0,
         ],
         TreeFirst::NoRule { visited, compared } => {

@@ -18,8 +18,10 @@ use Rattle.rules.specs.Words.{ruleWords, ruleCount}
 use Rattle.rules.specs.Good.{listVerdict}
 use Rattle.rules.proofs.Lists.{good-of-fine}
 use Rattle.text.specs.Text.{Reading, good, refused}
+use Rattle.rule_file.specs.declared.kind.Kind.{Kind}
 use Rattle.rule_file.specs.declared.read.Read.{Read}
 use Rattle.rule_file.specs.declared.read.Read.the-variants as read
+use Rattle.rule_file.specs.Kinds.{kindNumber, kindOf}
 use Rattle.rule_file.specs.RuleText.{rulesIn}
 use Rattle.rule_file.specs.Reading.{wordsIn, readVerdict, RulesRead}
 use Rattle.rule_file.specs.Reading as reader
@@ -31,7 +33,7 @@ use Rattle.policy.specs.TakeList.{ListTaken}
 
 -- ---- what the reader said
 
--- the words of a text that reads well are ten for each rule
+-- the words of a text that reads well are as many for each rule
 pub words-whole :
     (s : List ℕ) (a : Reading (List ℕ)) → rulesIn s ≡ a → length (wordsIn a) ≡ ruleCount (wordsIn a) * ruleWords
 words-whole s (refused why) e = refl
@@ -46,8 +48,10 @@ module _ (s : List ℕ) {before after : List ℕ} {r : Read} (t : RulesRead s be
       refused-by (said-by t) (ap reader.paper e) in
       writes-refused v refl (left-found t v)
 
-  module _ {n : ℕ} (e : r ≡ read.Rules n) where
-    says : (readVerdict (rulesIn s) (length before) ≡ verdict.Fine) × (n ∷ [] ≡ ruleCount (wordsIn (rulesIn s)) ∷ [])
+  module _ {n : ℕ} {k : Kind} (e : r ≡ read.Rules n k) where
+    says :
+        (readVerdict (rulesIn s) (length before) ≡ verdict.Fine) ×
+        (n ∷ kindNumber k ∷ [] ≡ ruleCount (wordsIn (rulesIn s)) ∷ kindNumber (kindOf s) ∷ [])
     says = fine-by (said-by t) (ap reader.paper e)
 
     size : n * ruleWords ≡ length (wordsIn (rulesIn s))
@@ -55,7 +59,7 @@ module _ (s : List ℕ) {before after : List ℕ} {r : Read} (t : RulesRead s be
         let count : n ≡ ruleCount (wordsIn (rulesIn s)) = (let z = says .1 in cc) in
         omega (arith, count, words-whole s (rulesIn s) refl)
 
-    -- its rules, ten words each
+    -- its rules, each with its words
     pub list-found : ListTaken (some s) before (Words (n * ruleWords)) after
     unfolding listIn
     list-found = writes-fine (says .0) (ap (λ (k : ℕ). success (k ∷ [])) size) (left-written t (says .0))

@@ -27,13 +27,16 @@ pub fn take_list(file: File, buffer: &[u8], rules: &mut [u32]) -> Listed
     }
 }
 
-// The list of a text. The reader says how many rules there are; each has its words.
+// The list of a text, of either kind. The reader says how many rules there are; each has its words.
 fn list_of(text: &[u8], rules: &mut [u32]) -> Listed
     ensures { λ r. ⌜ ListTaken (some (now (text .entry))) (now (rules .entry)) r (now (rules .exit)) ⌝ }
 {
     match rules_read(text, rules) {
         Read::Refused(why) => Listed::Refused(why),
-        Read::Rules { rules: count } => Listed::Words {
+        Read::Rules {
+            rules: count,
+            kind: _,
+        } => Listed::Words {
             words: count * RULE_WORDS,
         },
     }

@@ -48,7 +48,7 @@ module _
         lt-ltb i n h,
         read,
         s .test-back i r size below (g .each i h),
-        s .words-back i r size below,
+        s .words-back i r size below (g .each i h),
         at-next (F .width) ws i,
       )
 

@@ -21,11 +21,14 @@ pub record Sound (F : Format) (holds : List ℕ → Bool) : Type 0 where
   pub values-below : (i : ℕ) (r : List ℕ) → i < 2 ^ 32 → EachUnder (2 ^ 32) r → EachUnder (2 ^ 32) (F .valuesOf i r)
   pub words-length : (v : List ℕ) → length (F .wordsOf v) ≡ F .width
   pub words-below : (i : ℕ) (v : List ℕ) → F .test i v ≡ true → EachUnder (2 ^ 32) v → EachUnder (2 ^ 32) (F .wordsOf v)
-  pub words-back : (i : ℕ) (r : List ℕ) → length r ≡ F .width → EachUnder (2 ^ 32) r → F .wordsOf (F .valuesOf i r) ≡ r
+  pub words-back :
+      (i : ℕ) (r : List ℕ) → length r ≡ F .width → EachUnder (2 ^ 32) r → holds r ≡ true →
+      F .wordsOf (F .valuesOf i r) ≡ r
   pub test-back :
       (i : ℕ) (r : List ℕ) → length r ≡ F .width → EachUnder (2 ^ 32) r → holds r ≡ true →
       F .test i (F .valuesOf i r) ≡ true
-  pub test-holds : (i : ℕ) (v : List ℕ) → F .test i v ≡ true → holds (F .wordsOf v) ≡ true
+  pub test-holds :
+      (i : ℕ) (v : List ℕ) → F .test i v ≡ true → length v ≡ length (F .marks) → holds (F .wordsOf v) ≡ true
   pub values-exact :
       (i : ℕ) (v : List ℕ) → F .test i v ≡ true → length v ≡ length (F .marks) → v ≡ F .valuesOf i (F .wordsOf v)
 

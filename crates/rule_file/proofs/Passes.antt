@@ -17,25 +17,28 @@ use Rattle.text.specs.declared.end.Ending.the-variants as end
 use Rattle.text.specs.EndLines.{endLineAt}
 use Rattle.text.proofs.EndLines.{EndComes, end-comes}
 use Rattle.rules.specs.Words.{ruleWords, mostRules}
+use Rattle.rule_file.specs.declared.kind.Kind.{Kind}
 use Rattle.rule_file.specs.ListText.{within, over, finish}
 use Rattle.rule_file.specs.ReadSteps.{rulesStep, rulesFrom, restFrom, RuleStored, RulesStored}
 
-pub record ReadSoFar (s old : List ℕ) (n : ℕ) (first : Cursor) (i : ℕ) (c : Cursor) (new : List ℕ) : Type 0 where
+pub record ReadSoFar
+    (k : Kind) (s old : List ℕ) (n : ℕ) (first : Cursor) (i : ℕ) (c : Cursor) (new : List ℕ) : Type 0 where
   pub words : List ℕ
-  pub left : restFrom n s first ≡ rulesFrom (within n i words) s c
+  pub left : restFrom k n s first ≡ rulesFrom k (within n i words) s c
   pub size : length words ≡ i * ruleWords
   pub rules-are : new ≡ sets old 0 words
   pub stands : Stands s c
   pub most : i ≤ n
 
 -- before the first rule nothing is read, and all is left
-pub so-far-first : {s old : List ℕ} {n : ℕ} {c : Cursor} → Stands s c → ReadSoFar s old n c 0 c old
+pub so-far-first : {k : Kind} {s old : List ℕ} {n : ℕ} {c : Cursor} → Stands s c → ReadSoFar k s old n c 0 c old
 so-far-first h = record { words = []; left = refl; size = refl; rules-are = refl; stands = h; most = omega arith }
 
-module _ {s old new : List ℕ} {n i : ℕ} {first c : Cursor} (g : ReadSoFar s old n first i c new) where
+module _
+    {k : Kind} {s old new : List ℕ} {n i : ℕ} {first c : Cursor} (g : ReadSoFar k s old n first i c new) where
   -- the line of a rule leads to the next
   pub so-far-step :
-      {next : List ℕ} {d : Cursor} → i < n → RuleStored s c i new next d → ReadSoFar s old n first (i + 1) d next
+      {next : List ℕ} {d : Cursor} → i < n → RuleStored k s c i new next d → ReadSoFar k s old n first (i + 1) d next
   so-far-step h r =
       let e : i * ruleWords ≡ 0 + length (g .words) = omega (arith, g .size) in
       record {
@@ -49,33 +52,35 @@ module _ {s old new : List ℕ} {n i : ℕ} {first c : Cursor} (g : ReadSoFar s 
 
   -- a refused line of a rule refuses the text
   pub so-far-refused :
-      {why : Refusal} → i < n → ((m : ℕ) (ws : List ℕ) → i < m → rulesFrom (within m i ws) s c ≡ refused why) →
-      restFrom n s first ≡ refused why
+      {why : Refusal} → i < n → ((m : ℕ) (ws : List ℕ) → i < m → rulesFrom k (within m i ws) s c ≡ refused why) →
+      restFrom k n s first ≡ refused why
   so-far-refused h r = g .left ∙ r n (g .words) h
 
   module _ (small : length s < 2 ^ 63) (h : n ≤ i) where
     -- behind the last rule the end line decides
-    last-comes : EndComes (restFrom n s first) (g .words) (endLineAt s c true (n + 1))
+    last-comes : EndComes (restFrom k n s first) (g .words) (endLineAt s c true (n + 1))
     last-comes =
         let e : i ≡ n = omega (arith, g .most) in
-        let there = g .left ∙ ap (λ (k : ℕ). rulesFrom (within n k (g .words)) s c) e in
+        let there = g .left ∙ ap (λ (m : ℕ). rulesFrom k (within n m (g .words)) s c) e in
         rw there
-        (end-comes rulesStep finish small (g .stands) (within n n (g .words)) (over (g .words)) (g .words) true
+        (end-comes (rulesStep k) finish small (g .stands) (within n n (g .words)) (over (g .words)) (g .words) true
         (n + 1) refl (λ l. rw (le-ltb n n (omega arith))) refl (λ l. refl))
 
     -- where it is refused, so is the text
     pub so-far-ends-not :
-        {why : Refusal} → end.Refused why ≡ endLineAt s c true (n + 1) → restFrom n s first ≡ refused why
-    so-far-ends-not q = subst (EndComes (restFrom n s first) (g .words)) (sym q) last-comes
+        {why : Refusal} → end.Refused why ≡ endLineAt s c true (n + 1) → restFrom k n s first ≡ refused why
+    so-far-ends-not q = subst (EndComes (restFrom k n s first) (g .words)) (sym q) last-comes
 
     -- where the text is over, all rules are stored
     pub so-far-ends :
-        n ≤ mostRules → end.Over ≡ endLineAt s c true (n + 1) → RulesStored (restFrom n s first) old new n
-    so-far-ends few q =
+        {j : Kind} → j ≡ k → n ≤ mostRules → end.Over ≡ endLineAt s c true (n + 1) →
+        RulesStored k (restFrom k n s first) old new n j
+    so-far-ends same few q =
         record {
           words = g .words;
-          says = subst (EndComes (restFrom n s first) (g .words)) (sym q) last-comes;
+          says = subst (EndComes (restFrom k n s first) (g .words)) (sym q) last-comes;
           size = omega (arith, g .size, g .most);
           few = few;
           rules-are = g .rules-are;
+          kind = same;
         }

@@ -16,7 +16,8 @@ use Rattle.text.proofs.Refusing.{text-low}
 use Rattle.rules.specs.Twins.{twinsVerdict, FirstTwins}
 use Rattle.rules.proofs.TwinRules.{twins-refused-iff}
 use Rattle.rule_file.specs.ListText.{start, step, finish, listIn}
-use Rattle.rule_file.specs.RuleText.{rulesFormat, linesIn, onTwins, withoutTwins, rulesIn}
+use Rattle.rule_file.specs.Kinds.{kindOf}
+use Rattle.rule_file.specs.RuleText.{formatOf, linesIn, onTwins, withoutTwins, rulesIn}
 
 module _ (s ws : List ℕ) (e : linesIn s ≡ good ws) where
   -- where the words of the lines have no twins, the text reads as the lines do
@@ -54,7 +55,7 @@ lines-of-read s ws e = go (linesIn s) refl e
 -- lines are refused with 9 or 10
 lines-low : (s : List ℕ) {why : Refusal} → linesIn s ≡ refused why → numberOf why ≤ 10
 unfolding listIn
-lines-low s e = text-low (step rulesFormat) finish start 0 (split s) e
+lines-low s e = text-low (step (formatOf (kindOf s))) finish start 0 (split s) e
 
 -- a text is refused with 11, place r and extra q, exactly where its lines read well and those are the first twins of
 -- their words

@@ -1,24 +1,20 @@
--- One rule: the numbers of its line and its ten words give each other back.
+-- One rule: the test that the numbers of its line pass, and how many numbers and words there are, and how large.
 use Prim.Native.Nat.{ℕ, _^_, _<_}
 use native.Mathlib.Omega.{arith}
 use mathlib.Core.Bool.{Bool, true, false, _&&_}
 use mathlib.Core.List.{List, [], _∷_, _++_}
-use mathlib.Core.Path.{_≡_, refl, sym, ap, _∙_}
+use mathlib.Core.Path.{_≡_, refl}
 use lib.ListN.{length, getD}
 use lib.Dec.{eqb}
 use borrow.Author.Tests.{eqb-true, eq-eqb, ne-eqb}
-use Rattle.facts.specs.Lists.{tabulate}
 use Rattle.facts.proofs.Bools.{both, join}
-use Rattle.facts.proofs.Setting.{cells}
-use Rattle.text.specs.Words.{mostFields}
 use Rattle.text.specs.Line.{EachUnder}
 use Rattle.text.specs.Addresses.{octetsOf}
-use Rattle.text.proofs.Addresses.{octets-of-fit, octets-back, octets-exact, address-below}
+use Rattle.text.proofs.Addresses.{address-below}
 use Rattle.text.proofs.Below.{below-at, below-append}
 use Rattle.rules.specs.Words.{ruleWords}
 use Rattle.rules.specs.Good as rules
-use Rattle.rule_file.specs.Records.{sourceFits, destinationFits, sourceOf}
-use Rattle.rule_file.specs.Records.{ruleOf, ruleValues, ruleFits}
+use Rattle.rule_file.specs.Records.{sourceFits, destinationFits, ruleOf, ruleValues, ruleFits}
 
 -- the number of the line is i, the octets fit, and the rule is good
 pub record Tested (i : ℕ) (v : List ℕ) : Type 0 where
@@ -36,6 +32,11 @@ tested i v h =
     let h₂ = both (a && sourceFits v) (destinationFits v) (h₁ .0) in
     let h₃ = both a (sourceFits v) (h₂ .0) in
     record { number = eqb-true (getD v 0 0) i (h₃ .0); source = h₃ .1; destination = h₂ .1; rule = h₁ .1 }
+
+-- numbers that have all this pass the test
+pub passes : (i : ℕ) (v : List ℕ) → Tested i v → ruleFits i v ≡ true
+unfolding ruleFits
+passes i v t = join (join (join (eq-eqb (getD v 0 0) i (t .number)) (t .source)) (t .destination)) (t .rule)
 
 -- ---- the tests, one by one
 
@@ -62,53 +63,10 @@ module _ (i : ℕ) (v : List ℕ) (n : getD v 0 0 ≡ i) where
 
 -- ---- the words and the numbers
 
--- the words of a rule are ten
+-- the words of a rule are as many as it has
 pub rule-length : (v : List ℕ) → length (ruleOf v) ≡ ruleWords
 unfolding ruleOf
 rule-length v = refl
-
--- the numbers of a rule's line are as many as a line has at most
-pub values-length : (i : ℕ) (r : List ℕ) → length (ruleValues i r) ≡ mostFields
-unfolding ruleValues
-values-length i r = refl
-
--- the numbers of a line v, but with the number n and the octets a and b
-abbrev numbered : List ℕ → ℕ → List ℕ → List ℕ → List ℕ
-numbered v n a b =
-    (n ∷ a) ++
-    ((getD v 5 0 ∷ b) ++
-    (getD v 10 0 ∷ getD v 11 0 ∷ getD v 12 0 ∷ getD v 13 0 ∷ getD v 14 0 ∷ getD v 15 0 ∷ getD v 16 0 ∷ []))
-
--- the numbers of a line that pass the test are those of the rule that they give
-pub values-exact : (i : ℕ) (v : List ℕ) → length v ≡ mostFields → Tested i v → v ≡ ruleValues i (ruleOf v)
-unfolding ruleValues ruleOf tabulate
-values-exact i v l t =
-    let s : List ℕ = getD v 1 0 ∷ getD v 2 0 ∷ getD v 3 0 ∷ getD v 4 0 ∷ [] in
-    let d : List ℕ = getD v 6 0 ∷ getD v 7 0 ∷ getD v 8 0 ∷ getD v 9 0 ∷ [] in
-    let source = octets-exact (getD v 1 0) (getD v 2 0) (getD v 3 0) (getD v 4 0) (t .source) in
-    let destination = octets-exact (getD v 6 0) (getD v 7 0) (getD v 8 0) (getD v 9 0) (t .destination) in
-    cells mostFields v l ∙ ap (λ (n : ℕ). numbered v n s d) (t .number) ∙
-    ap (λ (x : List ℕ). numbered v i x d) (sym source) ∙
-    ap (λ (x : List ℕ). numbered v i (octetsOf (sourceOf v)) x) (sym destination)
-
--- the words that the numbers of a rule's line give are the rule's
-pub rule-back : (i : ℕ) (r : List ℕ) → length r ≡ ruleWords → EachUnder (2 ^ 32) r → ruleOf (ruleValues i r) ≡ r
-unfolding ruleValues ruleOf tabulate
-rule-back i r l b =
-    let source = octets-back (getD r 0 0) (below-at (2 ^ 32) r 0 (omega arith) b) in
-    let destination = octets-back (getD r 2 0) (below-at (2 ^ 32) r 2 (omega arith) b) in
-    rw (source, destination) (sym (cells ruleWords r l))
-
--- the numbers of a good rule's line pass the test
-pub test-back :
-    (i : ℕ) (r : List ℕ) → length r ≡ ruleWords → EachUnder (2 ^ 32) r → rules.good r 0 ≡ true →
-    ruleFits i (ruleValues i r) ≡ true
-unfolding ruleFits ruleValues
-test-back i r l b g =
-    let source = octets-of-fit (getD r 0 0) (below-at (2 ^ 32) r 0 (omega arith) b) in
-    let destination = octets-of-fit (getD r 2 0) (below-at (2 ^ 32) r 2 (omega arith) b) in
-    join (join (join (eq-eqb i i refl) source) destination)
-    (ap (λ (x : List ℕ). rules.good x 0) (rule-back i r l b) ∙ g)
 
 octets-below : (x : ℕ) → x < 2 ^ 32 → EachUnder (2 ^ 32) (octetsOf x)
 octets-below x l = (omega arith, (omega arith, (omega arith, (omega arith, tt))))
@@ -120,11 +78,12 @@ values-below i r h b =
     let at : (k : ℕ) → getD r k 0 < 2 ^ 32 = λ k. below-at (2 ^ 32) r k (omega arith) b in
     let s : ℕ = getD r 0 0 in
     let d : ℕ = getD r 2 0 in
-    let ends : List ℕ = getD r 3 0 ∷ getD r 4 0 ∷ getD r 5 0 ∷ getD r 6 0 ∷ getD r 7 0 ∷ getD r 8 0 ∷ getD r 9 0 ∷ [] in
+    let ends : List ℕ =
+    getD r 3 0 ∷ getD r 4 0 ∷ getD r 5 0 ∷ getD r 6 0 ∷ getD r 7 0 ∷ getD r 8 0 ∷ getD r 9 0 ∷ getD r 10 0 ∷ [] in
     let back : List ℕ = (getD r 1 0 ∷ octetsOf d) ++ ends in
     below-append (2 ^ 32) (i ∷ octetsOf s) back (h, octets-below s (at 0))
     (below-append (2 ^ 32) (getD r 1 0 ∷ octetsOf d) ends (at 1, octets-below d (at 2))
-    (at 3, (at 4, (at 5, (at 6, (at 7, (at 8, (at 9, tt))))))))
+    (at 3, (at 4, (at 5, (at 6, (at 7, (at 8, (at 9, (at 10, tt)))))))))
 
 -- the words of a line whose numbers pass the test have 32 bits
 pub rule-below : (i : ℕ) (v : List ℕ) → EachUnder (2 ^ 32) v → Tested i v → EachUnder (2 ^ 32) (ruleOf v)
@@ -133,4 +92,4 @@ rule-below i v b t =
     let at : (k : ℕ) → getD v k 0 < 2 ^ 32 = λ k. below-at (2 ^ 32) v k (omega arith) b in
     let source = address-below (getD v 1 0) (getD v 2 0) (getD v 3 0) (getD v 4 0) (t .source) in
     let destination = address-below (getD v 6 0) (getD v 7 0) (getD v 8 0) (getD v 9 0) (t .destination) in
-    (source, (at 5, (destination, (at 10, (at 11, (at 12, (at 13, (at 14, (at 15, (at 16, tt))))))))))
+    (source, (at 5, (destination, (at 10, (at 11, (at 12, (at 13, (at 14, (at 15, (at 16, (at 17, tt)))))))))))

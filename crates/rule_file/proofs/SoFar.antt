@@ -99,7 +99,7 @@ module _ {F : Format} {holds : List ℕ → Bool} (s : Sound F holds) where
     rule-each =
         below-more (λ (k : ℕ). holds (partAt w (ws ++ this) k) ≡ true) i
         (λ k q. rw (at-append w ws k this (omega (arith, b .size, part-within w q))) (b .each k q))
-        (rw rule-here (s .test-holds i v r))
+        (rw rule-here (s .test-holds i v r (f .count)))
 
     rule-so-far : i < n → RulesSoFar F holds n (i + 1) (ws ++ this) (t ++ ended l)
     rule-so-far h =

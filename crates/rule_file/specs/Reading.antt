@@ -1,5 +1,5 @@
 -- Reading a rule file. Definitions only.
---   paper                an answer of the reader, on paper: the number of rules
+--   paper                an answer of the reader, on paper: the number of rules, and the kind of the file
 --   wordsIn a            the words of a reading that came to its end; none where it was refused
 --   readVerdict a room   the reading's own refusal, 9, 10 or 11, then 4 where the room is less than its words
 --   RulesRead            the promise: the words of the text stand in front, or it is refused
@@ -15,11 +15,12 @@ use Rattle.text.specs.Text.{Reading, good, refused}
 use Rattle.rules.specs.Words.{ruleCount}
 use Rattle.rule_file.specs.declared.read.Read.{Read}
 use Rattle.rule_file.specs.declared.read.Read.the-variants.{Refused, Rules}
+use Rattle.rule_file.specs.Kinds.{kindNumber, kindOf}
 use Rattle.rule_file.specs.RuleText.{rulesIn}
 
 abbrev pub paper : Read → Paper
 paper (Refused why) = onPaper why
-paper (Rules count) = success (count ∷ [])
+paper (Rules count kind) = success (count ∷ kindNumber kind ∷ [])
 
 abbrev pub wordsIn : Reading (List ℕ) → List ℕ
 wordsIn (good ws) = ws
@@ -31,5 +32,5 @@ readVerdict (refused why) room = verdict.Refused why
 
 abbrev pub RulesRead : List ℕ → List ℕ → Read → List ℕ → Type 0
 RulesRead s before r after =
-    Writes paper (readVerdict (rulesIn s) (length before)) (ruleCount (wordsIn (rulesIn s)) ∷ []) (wordsIn (rulesIn s))
-    before r after
+    Writes paper (readVerdict (rulesIn s) (length before))
+    (ruleCount (wordsIn (rulesIn s)) ∷ kindNumber (kindOf s) ∷ []) (wordsIn (rulesIn s)) before r after

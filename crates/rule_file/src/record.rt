@@ -1,4 +1,4 @@
-// One rule as the numbers of its line, and as the ten words of a list.
+// One rule as the numbers of its line, and as the words of a list.
 use lent::store;
 use rules::check::rule_good;
 use rules::words::RULE_WORDS;
@@ -30,7 +30,7 @@ pub(crate) fn rule_fits(i: usize, values: [u32; MOST_FIELDS]) -> bool
     rule_good(&rule, 0)
 }
 
-// The ten words of the rule with these numbers.
+// The words of the rule with these numbers.
 pub(crate) fn rule_of(values: [u32; MOST_FIELDS]) -> [u32; RULE_WORDS]
     ensures { λ r. ⌜ r ≡ ruleOf values ⌝ }
 {
@@ -47,6 +47,7 @@ pub(crate) fn rule_of(values: [u32; MOST_FIELDS]) -> [u32; RULE_WORDS]
         values[14],
         values[15],
         values[16],
+        values[17],
     ]
 }
 
@@ -101,6 +102,7 @@ pub(crate) fn values_of(i: usize, rule: [u32; RULE_WORDS]) -> [u32; MOST_FIELDS]
         rule[7],
         rule[8],
         rule[9],
+        rule[10],
     ]
 }
 

@@ -7,19 +7,19 @@ use mathlib.Core.List.{List}
 use borrow.Author.Tests.{eqb-true, eq-eqb}
 use Rattle.facts.proofs.Below.{all-below-at, all-below-of}
 use Rattle.facts.proofs.Lowest.{lowest-at-most, lowest-passes, lowest-unique, lowest-none-iff}
-use Rattle.rules.specs.Words.{ruleWords, wordOf}
+use Rattle.rules.specs.Words.{matchWords, wordOf}
 use Rattle.rules.specs.Twins.{sameWords, earlierTwin}
 
 module _ (rs : List ℕ) where
   -- ---- equal words
 
-  -- two rules have equal words exactly where they have the same word at each place
+  -- two rules have equal words exactly where they have the same word at each place but the action's
   pub same-iff :
-      (q r : ℕ) → (sameWords rs q r ≡ true) ↔ ((j : ℕ) → j < ruleWords → wordOf rs q j ≡ wordOf rs r j)
+      (q r : ℕ) → (sameWords rs q r ≡ true) ↔ ((j : ℕ) → j < matchWords → wordOf rs q j ≡ wordOf rs r j)
   unfolding sameWords
   same-iff q r = (
-    λ e j l. eqb-true _ _ (all-below-at ruleWords _ e j l),
-    λ h. all-below-of ruleWords _ (λ j l. eq-eqb _ _ (h j l)),
+    λ e j l. eqb-true _ _ (all-below-at matchWords _ e j l),
+    λ h. all-below-of matchWords _ (λ j l. eq-eqb _ _ (h j l)),
   )
 
   -- two rules with the words of a third have equal words

@@ -1,11 +1,12 @@
--- Laws of lists of rules: which are twins and how they are found, what is good, what a rule means, the ends of its
--- fields, what entries lack, what the searches say and list, and that promises are exact.
+-- Laws of lists of rules: which are twins and how they are found, what is good and with which actions, what a rule
+-- means, the ends of its fields, what entries lack, what the searches say and list, and that promises are exact.
 pub mod EqualWords
 pub mod TwinRules
 pub mod Slots
 pub mod Chains
 pub mod Chaining
 pub mod Lists
+pub mod Actions
 pub mod Forms
 pub mod Meaning
 pub mod Ends

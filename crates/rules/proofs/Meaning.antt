@@ -13,8 +13,9 @@ use Rattle.fields.specs.Fields.{fieldGood, fieldMatches, fieldEnds, fieldMeets}
 use Rattle.fields.specs.Boxes.{lowOf, highOf, Inside, Full, meets}
 use Rattle.fields.proofs.Fields.{field-iff-between, field-not-empty}
 use Rattle.rules.specs.declared.words.Form.the-variants.{Prefix}
-use Rattle.rules.specs.Words.{forms, formOf, fieldOf}
-use Rattle.rules.specs.Good.{good}
+use Rattle.rules.specs.Words.{largestAction, forms, formOf, fieldOf}
+use Rattle.rules.specs.Good.{fieldsGood, good}
+use Rattle.rules.proofs.Actions.{good-to-iff}
 use Rattle.rules.specs.Matching.{matches, ruleBox}
 
 module _ (rs : List ℕ) (r : ℕ) where
@@ -33,8 +34,8 @@ module _ (rs : List ℕ) (r : ℕ) where
   module _ (g : good rs r ≡ true) where
     -- each field of a good rule is good
     pub field-good : (f : ℕ) → f < fieldCount → fieldGood (fieldOf (formOf f) rs r) ≡ true
-    unfolding good
-    field-good f l = all-below-at fieldCount _ g f l
+    unfolding fieldsGood
+    field-good f l = all-below-at fieldCount _ (good-to-iff largestAction rs r .0 g .0) f l
 
     field-iff :
         (h : List ℕ) (f : ℕ) → f < fieldCount →

@@ -22,7 +22,7 @@ use Rattle.rules.specs.declared.line.Listed.{Listed}
 use Rattle.rules.specs.declared.line.Listed.the-variants as listed
 use Rattle.rules.specs.declared.line.First.{First}
 use Rattle.rules.specs.declared.line.First.the-variants as first
-use Rattle.rules.specs.Words.{mostRules, ruleCount}
+use Rattle.rules.specs.Words.{mostRules, ruleCount, actionOf}
 use Rattle.rules.specs.Good.{listVerdict}
 use Rattle.rules.specs.Matching.{matches, matching}
 use Rattle.rules.specs.LineAll.{allVerdict, LineAllSearched}
@@ -96,41 +96,50 @@ module _ (rs h : List ℕ) where
 
   -- ---- the first match
 
-  -- the first of the matches is the first match
-  pub found-first : {r : ℕ} {rest : List ℕ} → scanned rs h ≡ r ∷ rest → FirstIs rs h (first.Rule r)
-  found-first e = record { is = sym (ap (λ (ms : List ℕ). success (firstOf ms)) e) }
+  -- the first of the matches, with its action, is the first match
+  pub found-first :
+      {r action : ℕ} {rest : List ℕ} → scanned rs h ≡ r ∷ rest → action ≡ actionOf rs r →
+      FirstIs rs h (first.Rule r action)
+  found-first e a = record { is = rw (e, a) }
 
   -- where nothing matches there is no first match
   pub found-none : scanned rs h ≡ [] → FirstIs rs h first.NoRule
-  found-none e = record { is = sym (ap (λ (ms : List ℕ). success (firstOf ms)) e) }
+  found-none e = record { is = rw e }
 
   -- where the list is fine, the line search answers as the scan
   pub first-scanned : {r : First} → listVerdict rs ≡ Fine → ScanFirstSearched rs h r → LineFirstSearched rs h r
   first-scanned e p = says-after e (rw (scanned-of-good e) at p)
 
--- ---- the number of a first match
+-- ---- the number of a first match, and its action
+
+-- the action that is said with a first match is that of its rule
+pub first-action : (rs ms : List ℕ) {n a : ℕ} → n ∷ a ∷ [] ≡ firstOf rs ms → a ≡ actionOf rs n
+first-action rs [] q = let z : _≡_ {A = ℕ} 0 1 = cc in absurd (omega arith)
+first-action rs (r ∷ rest) {n} {a} q =
+    let same : n ≡ r = cc in let action : a ≡ actionOf rs r = cc in rw same action
 
 -- the first that is kept of the numbers below k is below k
 first-kept :
-    (p : ℕ → Bool) (k : ℕ) {n : ℕ} (ms : List ℕ) → keep p (upFrom 0 k) ≡ ms → n ∷ [] ≡ firstOf ms → n < k
-first-kept p k [] e q = let z : _≡_ {A = ℕ} 0 1 = cc in absurd (omega arith)
-first-kept p k {n} (r ∷ rest) e q =
+    (rs : List ℕ) (p : ℕ → Bool) (k : ℕ) {n a : ℕ} (ms : List ℕ) → keep p (upFrom 0 k) ≡ ms →
+    n ∷ a ∷ [] ≡ firstOf rs ms → n < k
+first-kept rs p k [] e q = let z : _≡_ {A = ℕ} 0 1 = cc in absurd (omega arith)
+first-kept rs p k {n} (r ∷ rest) e q =
     let same : n ≡ r = cc in
     let kept = kept-iff p (upFrom 0 k) r .0 (rw e (has-first r rest r refl)) in
     omega (arith, up-iff k r .0 (kept .0))
 
-module _ (rs h : List ℕ) {n : ℕ} where
+module _ (rs h : List ℕ) {n a : ℕ} where
   -- a rule that a scan finds has a word of 32 bits for its number
-  pub scan-first-below : ScanFirstSearched rs h (first.Rule n) → n < mostScanned
+  pub scan-first-below : ScanFirstSearched rs h (first.Rule n a) → n < mostScanned
   unfolding scanned
   scan-first-below p =
-      let below = first-kept (matches rs h) (scanCount rs) (scanned rs h) refl (fine-by p refl .1) in
+      let below = first-kept rs (matches rs h) (scanCount rs) (scanned rs h) refl (fine-by p refl .1) in
       omega (arith, below, scan-count-fits rs)
 
   -- and one that the line search finds has a number below `mostRules`
-  pub first-below : LineFirstSearched rs h (first.Rule n) → n < mostRules
+  pub first-below : LineFirstSearched rs h (first.Rule n a) → n < mostRules
   unfolding matching
   first-below p =
       let f = fine-by p refl in
-      let below = first-kept (matches rs h) (ruleCount rs) (matching rs h) refl (f .1) in
+      let below = first-kept rs (matches rs h) (ruleCount rs) (matching rs h) refl (f .1) in
       omega (arith, below, few-rules rs (then-fine-iff _ _ .0 (f .0) .0))

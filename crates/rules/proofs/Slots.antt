@@ -11,23 +11,23 @@ use lib.Dec.{ltb}
 use borrow.Author.Tests.{ltb-true}
 use Rattle.facts.specs.Below.{allBelow}
 use Rattle.facts.proofs.Below.{all-below-at}
-use Rattle.rules.specs.Words.{ruleWords, wordOf}
+use Rattle.rules.specs.Words.{matchWords, wordOf}
 use Rattle.rules.specs.Twins.{sameWords}
 use Rattle.rules.specs.Chains.{slots, factors, dropped, mixOf, slotOf}
 use Rattle.rules.proofs.EqualWords.{same-iff}
 
 -- ---- the mix
 
-factor-small : (j : ℕ) → j < ruleWords → getD factors j 0 < 2 ^ 28
+factor-small : (j : ℕ) → j < matchWords → getD factors j 0 < 2 ^ 28
 unfolding allBelow
-factor-small j l = ltb-true _ _ (all-below-at ruleWords (λ k. ltb (getD factors k 0) (2 ^ 28)) refl j l)
+factor-small j l = ltb-true _ _ (all-below-at matchWords (λ k. ltb (getD factors k 0) (2 ^ 28)) refl j l)
 
 -- a word times its factor is at most 2 ^ 60
-part-small : {w : ℕ} (j : ℕ) → w < 2 ^ 32 → j < ruleWords → w * getD factors j 0 ≤ 2 ^ 60
+part-small : {w : ℕ} (j : ℕ) → w < 2 ^ 32 → j < matchWords → w * getD factors j 0 ≤ 2 ^ 60
 part-small {w} j small l = mul-le-mul (le-of-lt small) (le-of-lt (factor-small j l))
 
 -- so the mix of j words is at most j such numbers
-mix-small : (w : ℕ → ℕ) (j : ℕ) → ((i : ℕ) → w i < 2 ^ 32) → j ≤ ruleWords → mixOf w j ≤ j * 2 ^ 60
+mix-small : (w : ℕ → ℕ) (j : ℕ) → ((i : ℕ) → w i < 2 ^ 32) → j ≤ matchWords → mixOf w j ≤ j * 2 ^ 60
 unfolding mixOf
 mix-small w zero h l = omega arith
 mix-small w (suc j) h l = omega (arith, mix-small w j h (omega arith), part-small j (h j) (omega arith))
@@ -42,7 +42,7 @@ mix-same v w (suc n) h = rw (mix-same v w n (λ j l. h j (omega arith)), h n (om
 
 -- the loop's invariant at j: the words before it are mixed
 pub record Mixed (w : ℕ → ℕ) (mix j : ℕ) : Type 0 where
-  pub within : j ≤ ruleWords
+  pub within : j ≤ matchWords
   pub is : mix ≡ mixOf w j
 
 -- where the loop begins nothing is mixed
@@ -50,7 +50,7 @@ pub mixed-first : (w : ℕ → ℕ) → Mixed w 0 0
 unfolding mixOf
 mixed-first w = record { within = omega arith; is = refl }
 
-module _ {w : ℕ → ℕ} {mix j word : ℕ} (m : Mixed w mix j) (l : j < ruleWords) (e : word ≡ w j) where
+module _ {w : ℕ → ℕ} {mix j word : ℕ} (m : Mixed w mix j) (l : j < matchWords) (e : word ≡ w j) where
   -- one word more is mixed
   pub mixed-step : Mixed w (mix + word * getD factors j 0) (j + 1)
   unfolding mixOf
@@ -69,11 +69,11 @@ module _ {w : ℕ → ℕ} {mix j word : ℕ} (m : Mixed w mix j) (l : j < ruleW
 
 module _ (rs : List ℕ) (r : ℕ) where
   -- at the end the mix gives the slot
-  pub mixed-last : {mix j : ℕ} → Mixed (wordOf rs r) mix j → ruleWords ≤ j → mix / dropped % slots ≡ slotOf rs r
+  pub mixed-last : {mix j : ℕ} → Mixed (wordOf rs r) mix j → matchWords ≤ j → mix / dropped % slots ≡ slotOf rs r
   unfolding slotOf
   mixed-last {mix} {j} m l =
-      let all : j ≡ ruleWords = omega (arith, m .within) in
-      let is : mix ≡ mixOf (wordOf rs r) ruleWords = rw all at (m .is) in
+      let all : j ≡ matchWords = omega (arith, m .within) in
+      let is : mix ≡ mixOf (wordOf rs r) matchWords = rw all at (m .is) in
       rw is
 
   -- there are `slots` slots
@@ -84,4 +84,4 @@ module _ (rs : List ℕ) (r : ℕ) where
 -- rules with equal words share a slot
 pub slot-of-same : (rs : List ℕ) (q r : ℕ) → sameWords rs q r ≡ true → slotOf rs q ≡ slotOf rs r
 unfolding slotOf
-slot-of-same rs q r e = rw (mix-same (wordOf rs q) (wordOf rs r) ruleWords (same-iff rs q r .0 e))
+slot-of-same rs q r e = rw (mix-same (wordOf rs q) (wordOf rs r) matchWords (same-iff rs q r .0 e))

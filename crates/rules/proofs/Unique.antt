@@ -29,11 +29,11 @@ listed-apart (listed.Found m) (listed.Found n) e = let q : m ≡ n = cc in ap li
 -- answers of the search for the first match
 pub first-apart : Apart one.paper
 first-apart (first.Refused a) (first.Refused b) e = ap first.Refused (on-paper-unique a b e)
-first-apart (first.Refused a) (first.Rule n) e = refusal-not-success e
+first-apart (first.Refused a) (first.Rule n v) e = refusal-not-success e
 first-apart (first.Refused a) first.NoRule e = refusal-not-success e
-first-apart (first.Rule m) (first.Refused b) e = refusal-not-success (sym e)
-first-apart (first.Rule m) (first.Rule n) e = let q : m ≡ n = cc in ap first.Rule q
-first-apart (first.Rule m) first.NoRule e = let z : _≡_ {A = ℕ} 0 1 = cc in absurd (omega arith)
+first-apart (first.Rule m u) (first.Refused b) e = refusal-not-success (sym e)
+first-apart (first.Rule m u) (first.Rule n v) e = let q : m ≡ n = cc in let p : u ≡ v = cc in rw (q, p)
+first-apart (first.Rule m u) first.NoRule e = let z : _≡_ {A = ℕ} 0 1 = cc in absurd (omega arith)
 first-apart first.NoRule (first.Refused b) e = refusal-not-success (sym e)
-first-apart first.NoRule (first.Rule n) e = let z : _≡_ {A = ℕ} 0 1 = cc in absurd (omega arith)
+first-apart first.NoRule (first.Rule n v) e = let z : _≡_ {A = ℕ} 0 1 = cc in absurd (omega arith)
 first-apart first.NoRule first.NoRule e = refl

@@ -1,7 +1,7 @@
 -- Chains of rules: how twins are looked for. Each rule has a slot, and the rules of a slot are chained, each to the one
 -- before it. A place in a chain is a rule's number and 1 more, or 0 where the chain ends. Definitions only.
 --   slots                      the number of slots
---   factors                    what each word of a rule is multiplied by in its mix
+--   factors                    what each word of a rule but its action is multiplied by in its mix
 --   dropped                    what a mix is divided by, so that its lowest 24 bits are dropped
 --   mixOf w j                  the sum of the j words w 0, w 1, .. each times its factor
 --   slotOf rs r                the slot of rule r
@@ -14,7 +14,7 @@ use mathlib.Core.List.{List, [], _∷_}
 use mathlib.Core.Path.{_≡_}
 use lib.ListN.{length, getD}
 use lib.Dec.{eqb}
-use Rattle.rules.specs.Words.{ruleWords, wordOf}
+use Rattle.rules.specs.Words.{matchWords, wordOf}
 use Rattle.rules.specs.Twins.{sameWords}
 
 abbrev pub slots : ℕ
@@ -33,7 +33,7 @@ mixOf w zero = 0
 mixOf w (suc j) = mixOf w j + w j * getD factors j 0
 
 unfoldable pub slotOf : List ℕ → ℕ → ℕ
-slotOf rs r = mixOf (wordOf rs r) ruleWords / dropped % slots
+slotOf rs r = mixOf (wordOf rs r) matchWords / dropped % slots
 
 unfoldable pub latestIn : (ℕ → ℕ) → ℕ → ℕ → ℕ
 latestIn slot zero s = 0

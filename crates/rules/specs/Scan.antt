@@ -5,7 +5,7 @@
 --   scanned rs h             the numbers of those that match h, rising; for a good list all that match
 --   scanVerdict rs h room    3, then 4 where the room is less than the number of matches
 --   ScanAllSearched          the promise: it lists the numbers that match
---   ScanFirstSearched        the promise: 3; else the lowest number that matches
+--   ScanFirstSearched        the promise: 3; else the lowest number that matches, and its rule's action
 use Prim.Native.Nat.{ℕ, _^_, min}
 use mathlib.Core.List.{List}
 use lib.ListN.{length}
@@ -37,4 +37,4 @@ abbrev pub ScanAllSearched : List ℕ → List ℕ → List ℕ → Listed → L
 ScanAllSearched rs h before r after = Lists (scanVerdict rs h (length before)) (scanned rs h) before r after
 
 abbrev pub ScanFirstSearched : List ℕ → List ℕ → First → Type 0
-ScanFirstSearched rs h r = Says paper (headerVerdict h) (firstOf (scanned rs h)) r
+ScanFirstSearched rs h r = Says paper (headerVerdict h) (firstOf rs (scanned rs h)) r

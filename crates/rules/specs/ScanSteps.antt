@@ -24,4 +24,4 @@ abbrev pub MatchesKept : List ℕ → List ℕ → List ℕ → ℕ → List ℕ
 MatchesKept rs h before n after = Kept (matches rs h) (upFrom 0 (scanCount rs)) before n after
 
 pub record FirstIs (rs h : List ℕ) (r : First) : Type 0 where
-  pub is : paper r ≡ success (firstOf (scanned rs h))
+  pub is : paper r ≡ success (firstOf rs (scanned rs h))

@@ -1,5 +1,5 @@
--- Twins: two rules of a list with equal words. Definitions only.
---   sameWords rs q r    rules q and r have equal words
+-- Twins: two rules of a list that have equal words, whatever their actions. Definitions only.
+--   sameWords rs q r    rules q and r have equal words, their actions aside
 --   earlierTwin rs r    the lowest rule before r that has r's words; r where there is none
 --   twinVerdict rs r    11 at rule r, with that earlier rule, where there is one
 --   twinsVerdict rs     11 at the lowest rule that has a twin before it
@@ -16,10 +16,10 @@ use Rattle.facts.specs.Below.{allBelow, lowest}
 use Rattle.refusals.specs.declared.Refusal.the-variants.{RuleHasTwin}
 use Rattle.refusals.specs.declared.Verdict.{Verdict}
 use Rattle.refusals.specs.Order.{refuseUnless, inTurn}
-use Rattle.rules.specs.Words.{ruleWords, ruleCount, wordOf}
+use Rattle.rules.specs.Words.{matchWords, ruleCount, wordOf}
 
 unfoldable pub sameWords : List ℕ → ℕ → ℕ → Bool
-sameWords rs q r = allBelow ruleWords (λ j. eqb (wordOf rs q j) (wordOf rs r j))
+sameWords rs q r = allBelow matchWords (λ j. eqb (wordOf rs q j) (wordOf rs r j))
 
 unfoldable pub earlierTwin : List ℕ → ℕ → ℕ
 earlierTwin rs r = lowest r 0 (λ q. sameWords rs q r)

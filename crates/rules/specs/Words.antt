@@ -1,10 +1,13 @@
 -- The words of a list of rules. Definitions only.
---   ruleWords            the words of a rule
+--   ruleWords            the words of a rule: those that say what it matches, and then its action
+--   matchWords           those that say what it matches
 --   mostRules            the most rules that a list holds
 --   ruleCount rs         the number of whole rules
 --   ruleThere rs r       rule r is wholly lent
---   wordOf rs r j        word j of rule r
+--   wordOf rs r j        word j of rule r; 0 where it is not lent
+--   actionOf rs r        the action of rule r, as it stands
 --   largestPort, largestProtocol    the largest end of a rule's range of ports, and of protocols
+--   largestAction        the largest action of a good rule
 --   Form                 how a rule gives a field:
 --     Prefix address len        by a prefix: the words of its address and of its length
 --     Range low high largest    by a range: the words of its two ends, and the largest end that it may have
@@ -22,7 +25,10 @@ use Rattle.rules.specs.declared.words.Form.{Form}
 use Rattle.rules.specs.declared.words.Form.the-variants.{Prefix, Range}
 
 abbrev pub ruleWords : ℕ
-ruleWords = 10
+ruleWords = 11
+
+abbrev pub matchWords : ℕ
+matchWords = 10
 
 abbrev pub mostRules : ℕ
 mostRules = 512
@@ -36,11 +42,17 @@ ruleThere rs r = ltb r (ruleCount rs)
 abbrev pub wordOf : List ℕ → ℕ → ℕ → ℕ
 wordOf rs r j = getD rs (r * ruleWords + j) 0
 
+abbrev pub actionOf : List ℕ → ℕ → ℕ
+actionOf rs r = wordOf rs r matchWords
+
 abbrev pub largestPort : ℕ
 largestPort = 65535
 
 abbrev pub largestProtocol : ℕ
 largestProtocol = 255
+
+abbrev pub largestAction : ℕ
+largestAction = 255
 
 abbrev pub forms : List Form
 forms = Prefix 0 1 ∷ Prefix 2 3 ∷ Range 4 5 largestPort ∷ Range 6 7 largestPort ∷ Range 8 9 largestProtocol ∷ []

@@ -1,7 +1,9 @@
 // The rule check: whether a list holds whole rules, not too many, each of them good, and no two alike.
 use crate::twins::twins_verdict;
+use crate::words::LARGEST_ACTION;
 use crate::words::MOST_RULES;
 use crate::words::RULE_WORDS;
+use crate::words::action_of;
 use crate::words::field_of;
 use crate::words::rule_there;
 use fields::field::field_good;
@@ -11,7 +13,7 @@ use refusals::Verdict;
 ghost use Prim.Native.Nat.{_<_};
 ghost use mathlib.Core.Path.{_≡_};
 ghost use Rattle.rules.specs.Words.{ruleCount};
-ghost use Rattle.rules.specs.Good.{good, ruleGood, rulesVerdict, listVerdict};
+ghost use Rattle.rules.specs.Good.{fieldsGood, goodTo, ruleGood, rulesVerdict, listVerdictTo, listVerdict};
 ghost use Rattle.rules.specs.RuleCheck.{RuleChecked};
 
 pub enum Checked {
@@ -31,19 +33,26 @@ pub fn rule_check(rules: &[u32]) -> Checked
     }
 }
 
-// Whether a list is good: its words and its rules first, and then twins.
+// Whether a list is good.
 pub fn list_verdict(rules: &[u32]) -> Verdict
     ensures { λ v. ⌜ v ≡ listVerdict (now (rules .entry)) ⌝ }
 {
-    match rules_verdict(rules) {
+    verdict_to(rules, LARGEST_ACTION)
+}
+
+// Whether a list is good, with actions of at most `most`: its words and its rules first, and then twins.
+pub fn verdict_to(rules: &[u32], most: u32) -> Verdict
+    ensures { λ v. ⌜ v ≡ listVerdictTo most (now (rules .entry)) ⌝ }
+{
+    match rules_verdict(rules, most) {
         Verdict::Refused(why) => Verdict::Refused(why),
         Verdict::Fine => twins_verdict(rules),
     }
 }
 
 // Whether a list is good, twins aside. The number of words is looked at first, and then the rules, from the lowest.
-fn rules_verdict(rules: &[u32]) -> Verdict
-    ensures { λ v. ⌜ v ≡ rulesVerdict (now (rules .entry)) ⌝ }
+fn rules_verdict(rules: &[u32], most: u32) -> Verdict
+    ensures { λ v. ⌜ v ≡ rulesVerdict most (now (rules .entry)) ⌝ }
 {
     if rules.len() % RULE_WORDS != 0 {
         return Verdict::Refused(Refusal::RuleWordsWrong);
@@ -54,7 +63,7 @@ fn rules_verdict(rules: &[u32]) -> Verdict
     let count = rules.len() / RULE_WORDS;
     let mut rule = 0;
     while rule < count {
-        if !good(rules, rule) {
+        if !good_to(rules, rule, most) {
             return Verdict::Refused(Refusal::RuleNotGood { rule });
         }
         rule += 1;
@@ -69,13 +78,24 @@ pub fn rule_good(rules: &[u32], r: usize) -> bool
     if !rule_there(rules, r) {
         return false;
     }
-    good(rules, r)
+    good_to(rules, r, LARGEST_ACTION)
 }
 
-// Whether rule `r` is good, field by field.
-fn good(rules: &[u32], r: usize) -> bool
+// Whether rule `r` is good, with an action of at most `most`.
+fn good_to(rules: &[u32], r: usize, most: u32) -> bool
     requires { ⌜ r < ruleCount (now rules) ⌝ }
-    ensures { λ g. ⌜ g ≡ good (now (rules .entry)) r ⌝ }
+    ensures { λ g. ⌜ g ≡ goodTo most (now (rules .entry)) r ⌝ }
+{
+    if !fields_good(rules, r) {
+        return false;
+    }
+    action_of(rules, r) <= most
+}
+
+// Whether each field of rule `r` is good.
+fn fields_good(rules: &[u32], r: usize) -> bool
+    requires { ⌜ r < ruleCount (now rules) ⌝ }
+    ensures { λ g. ⌜ g ≡ fieldsGood (now (rules .entry)) r ⌝ }
 {
     let mut f = 0;
     while f < FIELDS {

@@ -4,6 +4,7 @@
 use crate::check::list_verdict;
 use crate::matching::matches;
 use crate::words::RULE_WORDS;
+use crate::words::action_of;
 use fields::header::header_verdict;
 use lent::store;
 use refusals::Refusal;
@@ -26,7 +27,7 @@ pub enum Listed {
 
 pub enum First {
     Refused(Refusal),
-    Rule { number: usize },
+    Rule { number: usize, action: u32 },
     NoRule,
 }
 
@@ -42,7 +43,7 @@ pub fn line_all(rules: &[u32], header: &[u32], out: &mut [u32]) -> Listed
     }
 }
 
-// The lowest number that matches, or that none does. Nothing is written.
+// The lowest number that matches and the action of its rule, or that none does. Nothing is written.
 pub fn line_first(rules: &[u32], header: &[u32]) -> First
     ensures { λ r. ⌜ LineFirstSearched (now (rules .entry)) (now (header .entry)) r ⌝ }
 {
@@ -111,7 +112,7 @@ fn store_matches(rules: &[u32], header: &[u32], out: &mut [u32]) -> usize
     n
 }
 
-// The first match.
+// The first match and its action.
 fn first_match(rules: &[u32], header: &[u32]) -> First
     requires { ⌜ length (now header) ≡ fieldCount ⌝ }
     ensures { λ r. ⌜ FirstIs (now (rules .entry)) (now (header .entry)) r ⌝ }
@@ -120,7 +121,10 @@ fn first_match(rules: &[u32], header: &[u32]) -> First
     let mut r = 0;
     while r < count {
         if matches(rules, header, r) {
-            return First::Rule { number: r };
+            return First::Rule {
+                number: r,
+                action: action_of(rules, r),
+            };
         }
         r += 1;
     }

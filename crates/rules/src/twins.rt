@@ -1,6 +1,7 @@
-// Twins: two rules of a list with equal words. A mix of its words picks a rule's slot, so twins share a slot, and a
-// rule is compared only with the earlier rules of its own. These are chained, each to the one before it. However the
-// slots fall, the answer is the same; where many rules share one it takes longer.
+// Twins: two rules of a list with equal words, their actions aside. A mix of these words picks a rule's slot, so twins
+// share a slot, and a rule is compared only with the earlier rules of its own. These are chained, each to the one before
+// it. However the slots fall, the answer is the same; where many rules share one it takes longer.
+use crate::words::MATCH_WORDS;
 use crate::words::MOST_RULES;
 use crate::words::RULE_WORDS;
 use crate::words::word_of;
@@ -16,8 +17,9 @@ ghost use Rattle.rules.specs.Chains.{slotOf, latestIn, Chained};
 // The number of slots.
 const SLOTS: usize = 512;
 
-// What each word of a rule is multiplied by in its mix: odd numbers of 28 bits, so that the sum has no more than 64.
-const FACTORS: [usize; RULE_WORDS] = [
+// What each word of a rule but its action is multiplied by in its mix: odd numbers of 28 bits, so that the sum has no
+// more than 64.
+const FACTORS: [usize; MATCH_WORDS] = [
     173068673,
     265731749,
     217751185,
@@ -74,13 +76,13 @@ fn twin_in(rules: &[u32], before: &[u32], place: u32, r: usize) -> usize
     r
 }
 
-// Whether two rules have equal words.
+// Whether two rules have equal words, their actions aside.
 fn same_words(rules: &[u32], q: usize, r: usize) -> bool
     requires { ⌜ (q < ruleCount (now rules)) × (r < ruleCount (now rules)) ⌝ }
     ensures { λ t. ⌜ t ≡ sameWords (now (rules .entry)) q r ⌝ }
 {
     let mut j = 0;
-    while j < RULE_WORDS {
+    while j < MATCH_WORDS {
         if word_of(rules, q, j) != word_of(rules, r, j) {
             return false;
         }
@@ -96,7 +98,7 @@ fn slot_of(rules: &[u32], r: usize) -> usize
 {
     let mut mix = 0;
     let mut k = 0;
-    while k < RULE_WORDS {
+    while k < MATCH_WORDS {
         mix += wide(word_of(rules, r, k)) * FACTORS[k];
         k += 1;
     }

@@ -4,10 +4,13 @@ use fields::header::FIELDS;
 ghost use Prim.Native.Nat.{_<_};
 ghost use mathlib.Core.Path.{_≡_};
 ghost use Rattle.fields.specs.Words.{fieldCount};
-ghost use Rattle.rules.specs.Words.{ruleWords, ruleCount, ruleThere, wordOf, formOf, fieldOf};
+ghost use Rattle.rules.specs.Words.{ruleWords, ruleCount, ruleThere, wordOf, actionOf, formOf, fieldOf};
 
-// The words of a rule.
-pub const RULE_WORDS: usize = 10;
+// The words of a rule: those that say what it matches, and then its action.
+pub const RULE_WORDS: usize = 11;
+
+// The words of a rule that say what it matches.
+pub(crate) const MATCH_WORDS: usize = 10;
 
 // The most rules that a list holds.
 pub const MOST_RULES: usize = 512;
@@ -16,6 +19,9 @@ pub const MOST_RULES: usize = 512;
 const LARGEST_PORT: u32 = 65_535;
 
 const LARGEST_PROTOCOL: u32 = 255;
+
+// The largest action of a good rule.
+pub const LARGEST_ACTION: u32 = 255;
 
 // How a rule gives a field: by a prefix, the words of its address and of its length; or by a range, the words of its
 // two ends, and the largest end that it may have.
@@ -76,6 +82,16 @@ pub(crate) fn field_of(rules: &[u32], r: usize, f: usize) -> Field
             largest,
         },
     }
+}
+
+// The action of rule `r`, as it stands; 0 where the rule is not wholly lent.
+pub fn action_of(rules: &[u32], r: usize) -> u32
+    ensures { λ a. ⌜ a ≡ actionOf (now (rules .entry)) r ⌝ }
+{
+    if !rule_there(rules, r) {
+        return 0;
+    }
+    word_of(rules, r, MATCH_WORDS)
 }
 
 // Word `j` of rule `r`.

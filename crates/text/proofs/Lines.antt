@@ -9,7 +9,7 @@ use mathlib.Core.Bool.{Bool, true, false, cond}
 use mathlib.Core.Option.{none, some}
 use mathlib.Core.List.{List, [], _∷_, _++_, append-assoc, append-nil}
 use mathlib.Core.Path.{_≡_, refl, sym, ap, _∙_, subst}
-use lib.ListN.{length, length-append}
+use lib.ListN.{length, take, length-append}
 use Rattle.facts.proofs.Bools.{clash}
 use Rattle.text.specs.Numbers.{Got, got, bad, digitsOf, isDigit}
 use Rattle.text.specs.Line.{thenRead, readWord, readBehind, fieldsFrom, wholly, readLine}
@@ -133,3 +133,14 @@ line-word w ms l vs bad e h = none-some h
 pub line-exact : (w ms l vs : List ℕ) → readLine w ms l ≡ some vs → Line w ms l vs
 unfolding readLine
 line-exact w ms l vs h = line-word w ms l vs (readWord w l) refl h
+
+fields-past : (ms vs : List ℕ) → printFields ms (take (length ms) vs) ≡ printFields ms vs
+unfolding printFields
+fields-past [] vs = refl
+fields-past (m ∷ ms) [] = refl
+fields-past (m ∷ ms) (v ∷ vs) = ap (λ (l : List ℕ). m ∷ (digitsOf v ++ l)) (fields-past ms vs)
+
+-- a line is written of as many numbers as it has separators
+pub line-past : (w ms vs : List ℕ) → printLine w ms (take (length ms) vs) ≡ printLine w ms vs
+unfolding printLine
+line-past w ms vs = ap (λ (l : List ℕ). w ++ l) (fields-past ms vs)

@@ -2,7 +2,7 @@
 -- only. A cursor past the text's end stands at its end.
 --   wrongAt k          9: the line after k whole lines
 --   cursorAt p k       the cursor at place p, with k whole lines before it
---   padded vs          the numbers vs in the seventeen words of an answer
+--   padded vs          the numbers vs in the eighteen words of an answer, 0 behind them
 --   digitsAt, numberAt, behindAt, wordAt, marksAt, fieldsAt    as many digits as follow; a number; one behind a
 --                      separator; a word; numbers behind separators; a word and such numbers; each at the front of
 --                      what is left

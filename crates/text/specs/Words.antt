@@ -1,8 +1,10 @@
 -- The fixed words and the separators of lines, as bytes. Definitions only.
 --   newline, tab                      the byte that ends a line, and the one that parts its fields
---   rulesWord .. refusedWord          `rules`, `rule`, `tree`, `part`, `cut`, `leaf`, `end`, `head`, `hit`, `refused`
+--   rulesWord .. refusedWord          `rules`, `acl`, `rule`, `tree`, `part`, `cut`, `leaf`, `end`, `head`, `hit`,
+--                                     `refused`
 --   oneTab .. fourTabs                the separators of a line of one to four numbers
 --   ruleMarks                         those of a rule: its number; two addresses with their lengths; six range ends
+--   aclMarks                          those of a rule with its action behind them
 --   headMarks                         those of a header: two addresses, and three numbers
 --   mostFields                        the most numbers of a line with fixed separators
 use Prim.Native.Nat.{ℕ}
@@ -16,6 +18,9 @@ tab = 9
 
 abbrev pub rulesWord : List ℕ
 rulesWord = 114 ∷ 117 ∷ 108 ∷ 101 ∷ 115 ∷ []
+
+abbrev pub aclWord : List ℕ
+aclWord = 97 ∷ 99 ∷ 108 ∷ []
 
 abbrev pub ruleWord : List ℕ
 ruleWord = 114 ∷ 117 ∷ 108 ∷ 101 ∷ []
@@ -59,8 +64,11 @@ fourTabs = tab ∷ tab ∷ tab ∷ tab ∷ []
 abbrev pub ruleMarks : List ℕ
 ruleMarks = 9 ∷ 9 ∷ 46 ∷ 46 ∷ 46 ∷ 47 ∷ 9 ∷ 46 ∷ 46 ∷ 46 ∷ 47 ∷ 9 ∷ 9 ∷ 9 ∷ 9 ∷ 9 ∷ 9 ∷ []
 
+abbrev pub aclMarks : List ℕ
+aclMarks = 9 ∷ 9 ∷ 46 ∷ 46 ∷ 46 ∷ 47 ∷ 9 ∷ 46 ∷ 46 ∷ 46 ∷ 47 ∷ 9 ∷ 9 ∷ 9 ∷ 9 ∷ 9 ∷ 9 ∷ 9 ∷ []
+
 abbrev pub headMarks : List ℕ
 headMarks = 9 ∷ 46 ∷ 46 ∷ 46 ∷ 9 ∷ 46 ∷ 46 ∷ 46 ∷ 9 ∷ 9 ∷ 9 ∷ []
 
 abbrev pub mostFields : ℕ
-mostFields = 17
+mostFields = 18

@@ -2,6 +2,8 @@
 // writers put them; they stand nowhere else.
 pub const RULES: [u8; 5] = *b"rules";
 
+pub const ACL: [u8; 3] = *b"acl";
+
 pub const RULE: [u8; 4] = *b"rule";
 
 pub const TREE: [u8; 4] = *b"tree";
@@ -37,8 +39,11 @@ pub const FOUR_TABS: [u8; 4] = *b"\t\t\t\t";
 // A rule's: its number; two addresses, each with its length; six range ends.
 pub const RULE_MARKS: [u8; 17] = *b"\t\t.../\t.../\t\t\t\t\t\t";
 
+// Those of a rule with its action behind them.
+pub const ACL_MARKS: [u8; 18] = *b"\t\t.../\t.../\t\t\t\t\t\t\t";
+
 // A header's: two addresses, and three numbers.
 pub const HEAD_MARKS: [u8; 11] = *b"\t...\t...\t\t\t";
 
 // The most numbers of a line with fixed separators.
-pub const MOST_FIELDS: usize = 17;
+pub const MOST_FIELDS: usize = 18;

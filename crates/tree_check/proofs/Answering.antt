@@ -27,9 +27,10 @@ use Rattle.tree_check.proofs.Searches.{refuses-none, same-list}
 use Rattle.tree_check.proofs.Answers.{accepted-means, accepted-figures}
 
 -- on paper the answer for the first of some numbers is the first of them
-first-on-paper : (ms : List ℕ) (v k : ℕ) → first.paper (firstAnswer ms v k) ≡ success (v ∷ k ∷ firstOf ms)
-first-on-paper [] v k = refl
-first-on-paper (r ∷ rest) v k = refl
+first-on-paper :
+    (rs ms : List ℕ) (v k : ℕ) → first.paper (firstAnswer rs ms v k) ≡ success (v ∷ k ∷ firstOf rs ms)
+first-on-paper rs [] v k = refl
+first-on-paper rs (r ∷ rest) v k = refl
 
 module _ (rs nodes pool : List ℕ) (ok : checkVerdict rs nodes pool ≡ Fine) (h : List ℕ) (legal : Legal h) where
   -- with room for the matches, this is an answer of the search for all matches
@@ -50,11 +51,11 @@ module _ (rs nodes pool : List ℕ) (ok : checkVerdict rs nodes pool ≡ Fine) (
   -- this is an answer of the search for the first match
   first-answer :
       TreeFirstSearched rs nodes pool h
-      (firstAnswer (matching rs h) (visited (walkOf nodes h))
+      (firstAnswer rs (matching rs h) (visited (walkOf nodes h))
       (length (lookedAt (matches rs h) (leafList nodes pool h))))
   first-answer =
       says-fine (refuses-none rs nodes pool ok h legal)
-      (rw (same-list rs nodes pool ok h legal) (first-on-paper (matching rs h) _ _))
+      (rw (same-list rs nodes pool ok h legal) (first-on-paper rs (matching rs h) _ _))
 
   -- the search for all matches gives them, with what holds of its counts
   all-gives :

@@ -10,7 +10,7 @@ use Rattle.fields.specs.Headers.{Legal}
 use Rattle.fields.specs.Boxes.{Inside, Full, rootBox}
 use Rattle.fields.proofs.Boxes.{CommonPoint, overlap-iff, meets-iff-common-point}
 use Rattle.fields.proofs.Root.{root-pairs, root-full, legal-iff-in-root}
-use Rattle.rules.specs.Words.{ruleCount}
+use Rattle.rules.specs.Words.{ruleCount, largestAction}
 use Rattle.rules.proofs.Lists.{GoodRules}
 use Rattle.trees.specs.Words.{nodeCount, entries}
 use Rattle.trees.specs.Spelt.{SpeltLeaf, Spelt}
@@ -26,7 +26,7 @@ use Rattle.tree_check.proofs.Walks.{leads-walk}
 
 -- a good list, and a tree that is spelt and whose root's part is built, with these figures and this lack
 pub record Formed (rs nodes pool : List ℕ) (c l : ℕ) (y : Lack) : Type 0 where
-  pub good : GoodRules rs
+  pub good : GoodRules largestAction rs
   pub spelt : Spelt (ruleCount rs) nodes pool
   pub root : Built false rs nodes pool mostCuts rootBox 0 (nodeCount nodes) c l y
 

@@ -11,8 +11,8 @@ use Rattle.refusals.specs.declared.Verdict.{Verdict}
 use Rattle.refusals.specs.declared.Verdict.the-variants.{Fine, Refused}
 use Rattle.refusals.specs.Table.{numberOf}
 use Rattle.refusals.specs.Order.{_then_}
-use Rattle.rules.specs.Words.{ruleCount}
-use Rattle.rules.specs.Good.{listVerdict}
+use Rattle.rules.specs.Words.{ruleCount, largestAction}
+use Rattle.rules.specs.Good.{listVerdictTo, listVerdict}
 use Rattle.rules.specs.Twins.{twinVerdict, twinsVerdict}
 use Rattle.rules.proofs.Lists.{rules-only}
 use Rattle.trees.specs.Words.{sizeVerdict}
@@ -54,9 +54,9 @@ then-last (refused n) l e = not-last n l e
 
 -- the rule check never says that a leaf lacks a rule
 pub list-no-lack : (rs : List ℕ) → Only NotLack (listVerdict rs)
-unfolding listVerdict twinsVerdict twinVerdict
+unfolding listVerdictTo twinsVerdict twinVerdict
 list-no-lack rs =
-    then-only (only-wider (λ why l e. omega arith) (rules-only rs))
+    then-only (only-wider (λ why l e. omega arith) (rules-only largestAction rs))
     (turns-only _ _ _ (λ r. unless-only _ (RuleHasTwin r _) (λ e. omega arith)))
 
 -- nor do the sizes

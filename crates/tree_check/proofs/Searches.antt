@@ -93,8 +93,8 @@ module _ (rs nodes pool : List ℕ) (ok : checkVerdict rs nodes pool ≡ Fine) w
   -- of any header the search for the first match refuses or finds what the line search does
   pub same-first :
       (h : List ℕ) →
-      (reachVerdict rs nodes pool h giving firstOf (treeList rs nodes pool h)) ≡
-      ((listVerdict rs then headerVerdict h) giving firstOf (matching rs h))
+      (reachVerdict rs nodes pool h giving firstOf rs (treeList rs nodes pool h)) ≡
+      ((listVerdict rs then headerVerdict h) giving firstOf rs (matching rs h))
   unfolding reachVerdict
   same-first h = go (headerVerdict h) refl
     where
@@ -103,9 +103,9 @@ module _ (rs nodes pool : List ℕ) (ok : checkVerdict rs nodes pool ≡ Fine) w
 
       go :
           (x : Verdict) → headerVerdict h ≡ x →
-          (reachVerdict rs nodes pool h giving firstOf (treeList rs nodes pool h)) ≡
-          ((listVerdict rs then headerVerdict h) giving firstOf (matching rs h))
+          (reachVerdict rs nodes pool h giving firstOf rs (treeList rs nodes pool h)) ≡
+          ((listVerdict rs then headerVerdict h) giving firstOf rs (matching rs h))
       go Fine k =
-          giving-fine _ (refuses-none h k) ∙ ap (λ (ms : List ℕ). success (firstOf ms)) (same-list h k) ∙
+          giving-fine _ (refuses-none h k) ∙ ap (λ (ms : List ℕ). success (firstOf rs ms)) (same-list h k) ∙
           sym (giving-fine _ (then-fine _ list ∙ k))
       go (Refused why) k = giving-refused _ (then-refused _ k) ∙ sym (giving-refused _ (then-fine _ list ∙ k))

@@ -2,7 +2,7 @@
 --   AllFound rs h found P r after    r says how many rules match, `after` has their numbers in front and the rest of
 --                                    `found` behind, and P holds of the nodes visited and the entries compared
 --   AllGives rs nodes pool h P       with room for the matches, the search for all matches of header h answers so
---   firstAnswer ms v k               the answer for the first of the numbers ms, or for none
+--   firstAnswer rs ms v k            the answer for the first of the numbers ms, with its action, or for none
 --   FirstFound, FirstGives           the same for the search for the first match
 --   Answering rs nodes pool c l      what an accepted tree with the figures c and l answers
 use Prim.Native.Nat.{ℕ, _+_, _≤_}
@@ -11,6 +11,7 @@ use mathlib.Core.List.{List, [], _∷_}
 use lib.ListN.{length}
 use Rattle.facts.specs.Lists.{written}
 use Rattle.fields.specs.Headers.{Legal}
+use Rattle.rules.specs.Words.{actionOf}
 use Rattle.rules.specs.Matching.{matching}
 use Rattle.trees.specs.declared.search.TreeListed.{TreeListed}
 use Rattle.trees.specs.declared.search.TreeListed.the-variants.{Found}
@@ -31,14 +32,14 @@ AllGives rs nodes pool h P =
     (found : List ℕ) → length (matching rs h) ≤ length found → (r : TreeListed) (after : List ℕ) →
     TreeAllSearched rs nodes pool h found r after → AllFound rs h found P r after
 
-abbrev pub firstAnswer : List ℕ → ℕ → ℕ → TreeFirst
-firstAnswer [] v k = NoRule v k
-firstAnswer (r ∷ rest) v k = Rule r v k
+abbrev pub firstAnswer : List ℕ → List ℕ → ℕ → ℕ → TreeFirst
+firstAnswer rs [] v k = NoRule v k
+firstAnswer rs (r ∷ rest) v k = Rule r (actionOf rs r) v k
 
 pub record FirstFound (rs h : List ℕ) (P : ℕ → ℕ → Type 0) (r : TreeFirst) : Type 0 where
   pub visited : ℕ
   pub compared : ℕ
-  pub answers : r ≡ firstAnswer (matching rs h) visited compared
+  pub answers : r ≡ firstAnswer rs (matching rs h) visited compared
   pub counts : P visited compared
 
 abbrev pub FirstGives : List ℕ → List ℕ → List ℕ → List ℕ → (ℕ → ℕ → Type 0) → Type 0

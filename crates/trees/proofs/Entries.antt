@@ -9,7 +9,7 @@ use lib.ListN.{length, getD}
 use Rattle.facts.specs.Lists.{keep}
 use Rattle.facts.proofs.Steps.{keep-none, keep-in, keep-out}
 use Rattle.facts.proofs.Under.{all-under-iff-at}
-use Rattle.rules.specs.Words.{ruleCount}
+use Rattle.rules.specs.Words.{ruleCount, actionOf}
 use Rattle.rules.specs.Matching.{matches, ruleMatches}
 use Rattle.rules.proofs.AnyWords.{rule-matches-of-there}
 use Rattle.trees.specs.declared.search.TreeFirst.the-variants.{Rule, NoRule}
@@ -58,11 +58,12 @@ unfolding lookedAt
 looked-last w e = w .looked ∙ rw e (omega arith)
 
 module _ {rs h all rest : List ℕ} {i : ℕ} (seen : ℕ) (w : Looking (matches rs h) all rest i) where
-  -- the first entry that matches is the answer, compared with those before it
+  -- the first entry that matches, with its action, is the answer, compared with those before it
   pub first-is :
-      {x : ℕ} {next : List ℕ} → rest ≡ x ∷ next → matches rs h x ≡ true → LeafFirst rs h all seen (Rule x seen (i + 1))
-  first-is {x} step t =
-      record { is = rw (w .kept ∙ keep-in (matches rs h) x step t, looked-found w step t) }
+      {x action : ℕ} {next : List ℕ} → rest ≡ x ∷ next → matches rs h x ≡ true → action ≡ actionOf rs x →
+      LeafFirst rs h all seen (Rule x action seen (i + 1))
+  first-is {x} step t a =
+      record { is = rw (w .kept ∙ keep-in (matches rs h) x step t, looked-found w step t, a) }
 
   -- where no entry is left none matches, and all were compared
   pub first-none : {n : ℕ} → rest ≡ [] → n ≡ i → LeafFirst rs h all seen (NoRule seen n)

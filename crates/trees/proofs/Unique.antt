@@ -18,11 +18,11 @@ listed-apart (listed.Found n v w) (listed.Found n' v' w') e = cc
 -- answers of the search for the first match
 pub first-apart : Apart one.paper
 first-apart (first.Refused a) (first.Refused b) e = ap first.Refused (on-paper-unique a b e)
-first-apart (first.Refused a) (first.Rule n v w) e = refusal-not-success e
+first-apart (first.Refused why) (first.Rule n a v w) e = refusal-not-success e
 first-apart (first.Refused a) (first.NoRule v w) e = refusal-not-success e
-first-apart (first.Rule n v w) (first.Refused b) e = refusal-not-success (sym e)
-first-apart (first.Rule n v w) (first.Rule n' v' w') e = cc
-first-apart (first.Rule n v w) (first.NoRule v' w') e = cc
+first-apart (first.Rule n a v w) (first.Refused b) e = refusal-not-success (sym e)
+first-apart (first.Rule n a v w) (first.Rule n' a' v' w') e = cc
+first-apart (first.Rule n a v w) (first.NoRule v' w') e = cc
 first-apart (first.NoRule v w) (first.Refused b) e = refusal-not-success (sym e)
-first-apart (first.NoRule v w) (first.Rule n' v' w') e = cc
+first-apart (first.NoRule v w) (first.Rule n' a' v' w') e = cc
 first-apart (first.NoRule v w) (first.NoRule v' w') e = cc

@@ -71,4 +71,4 @@ LeafListed rs h l seen before r after =
 
 pub record LeafFirst (rs h l : List ℕ) (seen : ℕ) (r : TreeFirst) : Type 0 where
   pub is :
-      first.paper r ≡ success (seen ∷ length (lookedAt (matches rs h) l) ∷ firstOf (keep (matches rs h) l))
+      first.paper r ≡ success (seen ∷ length (lookedAt (matches rs h) l) ∷ firstOf rs (keep (matches rs h) l))

@@ -12,6 +12,7 @@ use refusals::Refusal;
 use refusals::Verdict;
 use rules::matching::rule_matches;
 use rules::words::RULE_WORDS;
+use rules::words::action_of;
 ghost use Prim.Native.Nat.{_<_};
 ghost use Rattle.facts.specs.Lists.{Kept};
 ghost use Rattle.rules.specs.Matching.{matches};
@@ -33,6 +34,7 @@ pub enum TreeFirst {
     Refused(Refusal),
     Rule {
         number: u32,
+        action: u32,
         visited: usize,
         compared: usize,
     },
@@ -77,7 +79,7 @@ pub fn tree_all(
     }
 }
 
-// The first entry of the reached leaf that matches, or that none does. Nothing is written.
+// The first entry of the reached leaf that matches and its rule's action, or that none does. Nothing is written.
 pub fn tree_first(rules: &[u32], nodes: &[u32], pool: &[u32], header: &[u32]) -> TreeFirst
     ensures { λ r. ⌜ TreeFirstSearched (now (rules .entry)) (now (nodes .entry)) (now (pool .entry))
         (now (header .entry)) r ⌝ }
@@ -179,7 +181,7 @@ fn store_entries(rules: &[u32], header: &[u32], leaf: &[u32], out: &mut [u32]) -
     n
 }
 
-// The first entry that matches, and how many entries were compared.
+// The first entry that matches, its rule's action, and how many entries were compared.
 fn first_entry(rules: &[u32], header: &[u32], leaf: &[u32], visited: usize) -> TreeFirst
     requires { ⌜ Comparable (now rules) (now header) (now leaf) ⌝ }
     ensures { λ r. ⌜ LeafFirst (now (rules .entry)) (now (header .entry)) (now (leaf .entry)) visited r ⌝ }
@@ -187,9 +189,11 @@ fn first_entry(rules: &[u32], header: &[u32], leaf: &[u32], visited: usize) -> T
     let mut i = 0;
     while i < leaf.len() {
         let number = leaf[i];
-        if rule_matches(rules, header, wide(number)) {
+        let rule = wide(number);
+        if rule_matches(rules, header, rule) {
             return TreeFirst::Rule {
                 number,
+                action: action_of(rules, rule),
                 visited,
                 compared: i + 1,
             };

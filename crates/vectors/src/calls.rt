@@ -66,15 +66,16 @@ pub(crate) fn scan_list(example: &[u8], list: &[u32], header: &[u32]) {
     say_first(example, b"scan_first", scan_first(list, header));
 }
 
-// The first number, or none.
+// The first number and its action, or none.
 fn say_first(example: &[u8], call: &[u8], said: First) {
     begin(example, call);
     match said {
         First::Refused(why) => refused(why),
-        First::Rule { number } => {
+        First::Rule { number, action } => {
             value(0);
             word(b"rule");
             value(number as u64);
+            say_action(action);
         }
         First::NoRule => {
             value(0);
@@ -82,6 +83,14 @@ fn say_first(example: &[u8], call: &[u8], said: First) {
         }
     }
     end();
+}
+
+// The action of a first match, where it is not 0.
+fn say_action(action: u32) {
+    if action != 0 {
+        word(b"action");
+        value(action as u64);
+    }
 }
 
 // The numbers that a line search or a scan found, of which there are so many.
@@ -132,19 +141,21 @@ pub(crate) fn say_tree_listed(example: &[u8], said: TreeListed, out: [u32; 3]) {
     end();
 }
 
-// The first number, or none; the nodes visited, and the entries compared.
+// The first number and its action, or none; the nodes visited, and the entries compared.
 fn say_tree_first(example: &[u8], said: TreeFirst) {
     begin(example, b"tree_first");
     match said {
         TreeFirst::Refused(why) => refused(why),
         TreeFirst::Rule {
             number,
+            action,
             visited,
             compared,
         } => {
             value(0);
             word(b"rule");
             value(number as u64);
+            say_action(action);
             value(visited as u64);
             value(compared as u64);
         }

@@ -10,7 +10,7 @@ ghost use Prim.Native.Nat.{_≤_, _<_};
 
 // One address, 10.1.2.3/32. The trees cut it out: 167838210 is the address below it.
 pub(crate) fn length_32() {
-    let list = [0x0a010203, 32, 0, 0, 0, 65535, 0, 65535, 0, 255];
+    let list = [0x0a010203, 32, 0, 0, 0, 65535, 0, 65535, 0, 255, 0];
     check_list(b"length 32", &list);
     search_list(b"length 32, that address", &list, &web(0x0a010203));
     search_list(b"length 32, the address below", &list, &web(0x0a010202));
@@ -23,86 +23,86 @@ pub(crate) fn length_32() {
 
 // Length 0 agrees with everything.
 pub(crate) fn length_0() {
-    let list = [0, 0, 0, 0, 0, 65535, 0, 65535, 0, 255];
+    let list = [0, 0, 0, 0, 0, 65535, 0, 65535, 0, 255, 0];
     check_list(b"length 0", &list);
     search_list(b"length 0, the lowest address", &list, &web(0));
     search_list(b"length 0, the highest address", &list, &web(0xffffffff));
     check_list(
         b"length 0, a stray bit",
-        &[0x80000000, 0, 0, 0, 0, 65535, 0, 65535, 0, 255],
+        &[0x80000000, 0, 0, 0, 0, 65535, 0, 65535, 0, 255, 0],
     );
     check_list(
         b"length 0 to one address",
-        &[0, 0, 0xffffffff, 32, 0, 65535, 0, 65535, 0, 255],
+        &[0, 0, 0xffffffff, 32, 0, 65535, 0, 65535, 0, 255, 0],
     );
 }
 
 // A length past 32, and the bit that a length of 31 leaves out.
 pub(crate) fn past_length_32() {
-    let list = [0, 33, 0, 0, 0, 65535, 0, 65535, 0, 255];
+    let list = [0, 33, 0, 0, 0, 65535, 0, 65535, 0, 255, 0];
     check_list(b"length 33", &list);
     scan_list(b"length 33", &list, &web(0));
     check_list(
         b"length 31, the last bit set",
-        &[1, 31, 0, 0, 0, 65535, 0, 65535, 0, 255],
+        &[1, 31, 0, 0, 0, 65535, 0, 65535, 0, 255, 0],
     );
     check_list(
         b"length 32, the last bit set",
-        &[1, 32, 0, 0, 0, 65535, 0, 65535, 0, 255],
+        &[1, 32, 0, 0, 0, 65535, 0, 65535, 0, 255, 0],
     );
 }
 
 // 512 rules: only the last holds protocol 6. Then the last is not good.
 pub(crate) fn rules_512() {
     let mut list = many();
-    list[5119] = 255;
+    list[5630] = 255;
     good_512(list);
-    list[5118] = 256;
+    list[5629] = 256;
     bad_512(list);
 }
 
-fn good_512(list: [u32; 5130]) {
-    check_list(b"512 rules", &list[0..5120]);
-    search_list(b"512 rules", &list[0..5120], &[0, 0, 0, 0, 6]);
-    check_list(b"512 rules but one word", &list[0..5119]);
+fn good_512(list: [u32; 5643]) {
+    check_list(b"512 rules", &list[0..5632]);
+    search_list(b"512 rules", &list[0..5632], &[0, 0, 0, 0, 6]);
+    check_list(b"512 rules but one word", &list[0..5631]);
 }
 
-fn bad_512(list: [u32; 5130]) {
-    check_list(b"512 rules, the last not good", &list[0..5120]);
-    scan_list(b"512 rules, the last not good", &list[0..5120], &[0; 5]);
+fn bad_512(list: [u32; 5643]) {
+    check_list(b"512 rules, the last not good", &list[0..5632]);
+    scan_list(b"512 rules, the last not good", &list[0..5632], &[0; 5]);
     read_list(
         b"a file of 512 rules, cut after its first line",
         b"rules\t512\n",
-        &mut [0; 5120],
+        &mut [0; 5632],
     );
 }
 
 // One rule more.
 pub(crate) fn rules_513() {
     let mut list = many();
-    list[5129] = 255;
+    list[5641] = 255;
     lists_513(list);
 }
 
-fn lists_513(list: [u32; 5130]) {
+fn lists_513(list: [u32; 5643]) {
     check_list(b"513 rules", &list);
     search_list(b"513 rules", &list, &[0, 0, 0, 0, 6]);
     scan_list(b"513 rules", &list, &[0, 0, 0, 0, 6]);
-    scan_list(b"513 rules but one word", &list[0..5129], &[0, 0, 0, 0, 6]);
+    scan_list(b"513 rules but one word", &list[0..5642], &[0, 0, 0, 0, 6]);
     check_tree(b"513 rules", &list, &[5, 0, 0], &[]);
     read_list(
         b"a file of 513 rules, cut after its first line",
         b"rules\t513\n",
-        &mut [0; 5130],
+        &mut [0; 5643],
     );
 }
 
 // 513 rules: each has the source ports from 0 to its own number, and is 0 otherwise.
-fn many() -> [u32; 5130] {
-    let mut list = [0u32; 5130];
+fn many() -> [u32; 5643] {
+    let mut list = [0u32; 5643];
     let mut i = 0;
     while i < 513 {
-        list[10 * i + 5] = i as u32;
+        list[11 * i + 5] = i as u32;
         i += 1;
     }
     list

@@ -4,11 +4,13 @@
 // once more.
 //   worked    the worked policy: its headers, its tree, its files
 //   twins     rules with the words of an earlier one, in lists and in files
+//   actions   the worked policy with actions, in lists and in files
 //   limits    lengths 32 and 0, 512 and 513 rules, 63 and 64 cuts
 //   policy    the words of the worked policy
 //   calls     the searches and the checks, and the line that says the answer
 //   files     the readers and the writers, likewise
 //   say       the parts of a line
+mod actions;
 mod calls;
 mod files;
 mod limits;
@@ -27,6 +29,10 @@ fn main() {
     twins::lists();
     twins::unjudged_lists();
     twins::rule_files();
+    actions::checks();
+    actions::searches();
+    actions::one_rule();
+    actions::rule_files();
     limits::length_32();
     limits::length_0();
     limits::past_length_32();

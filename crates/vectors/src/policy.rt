@@ -1,6 +1,6 @@
-// The worked policy: its rules, its tree, and its headers.
+// The worked policy: its rules, all of action 0, its tree, and its headers.
 
-pub const RULES: [u32; 30] = [
+pub const RULES: [u32; 33] = [
     // Rule 0 is 10.0.0.0/8 to any, destination port 80, protocol 6.
     0x0a000000,
     8,
@@ -12,6 +12,7 @@ pub const RULES: [u32; 30] = [
     80,
     6,
     6,
+    0,
     // Rule 1 is 10.1.0.0/16 to any, destination ports 0 to 1,023, protocol 6.
     0x0a010000,
     16,
@@ -23,6 +24,7 @@ pub const RULES: [u32; 30] = [
     1023,
     6,
     6,
+    0,
     // Rule 2 is everything.
     0,
     0,
@@ -34,6 +36,7 @@ pub const RULES: [u32; 30] = [
     65535,
     0,
     255,
+    0,
 ];
 
 pub const NODES: [u32; 15] = [0, 167772159, 2, 5, 0, 1, 0, 184549375, 4, 5, 1, 3, 5, 4, 1];

@@ -81,7 +81,7 @@ pub(crate) fn rule_files() {
     let mut text = [0u8; 157];
     write_list(b"the list's file", &RULES, &mut text);
     io::write_all(STDOUT_FILENO, &text);
-    let mut list = [0u32; 30];
+    let mut list = [0u32; 33];
     read_list(b"the list's file", &text, &mut list);
     search_list(b"the list that was read", &list, &web(0x0a010203));
     short_rule_files(text);
@@ -95,13 +95,13 @@ fn short_rule_files(text: [u8; 157]) {
         &RULES,
         &mut bytes,
     );
-    let mut words = [0u32; 29];
+    let mut words = [0u32; 32];
     read_list(
         b"the list's file, room for one word less",
         &text,
         &mut words,
     );
-    let mut list = [0u32; 30];
+    let mut list = [0u32; 33];
     read_list(
         b"the list's file without the last newline",
         &text[0..156],

@@ -16,13 +16,17 @@ of-refusal-requires c κs = search needs
 enum-known-said-2 : tie.Need-enum-known-said-2
 enum-known-said-2 c = search needs
 
+of-kind-requires : tie.Need-of-kind-requires
+of-kind-requires c κs = search needs
+
 returns : tie.Need-returns
 returns c =
     c .of-refusal .ensures ∙ sym (ap (λ (x : Read). asEight plainly (paper x)) (c .before .before .said .given .1))
 
 returns-2 : tie.Need-returns-2
-returns-2 c = sym (ap (λ (x : Read). asEight plainly (paper x)) (c .before .said2 .given .1))
+returns-2 c = rw (c .before .before .said2 .given .1, c .of-kind .ensures)
 
 pub of-read-spec : {M : Type 1} → statement M
 of-read-spec =
-    tie.close (tie.spec enum-known-said of-refusal-requires enum-known-said-2 returns returns-2)
+    tie.close
+    (tie.spec enum-known-said of-refusal-requires enum-known-said-2 of-kind-requires returns returns-2)

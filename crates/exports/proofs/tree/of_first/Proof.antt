@@ -17,11 +17,14 @@ of-refusal-requires c κs = search needs
 enum-known-said-2 : tie.Need-enum-known-said-2
 enum-known-said-2 c = search needs
 
-cast-t9 : tie.Need-cast-t9
-cast-t9 c = omega arith
+cast-t10 : tie.Need-cast-t10
+cast-t10 c = omega arith
 
-add-t10 : tie.Need-add-t10
-add-t10 c = omega arith
+add-t11 : tie.Need-add-t11
+add-t11 c = omega arith
+
+cast-t14 : tie.Need-cast-t14
+cast-t14 c = search needs
 
 enum-known-said-3 : tie.Need-enum-known-said-3
 enum-known-said-3 c = search needs
@@ -44,8 +47,9 @@ of-first-spec =
     enum-known-said
     of-refusal-requires
     enum-known-said-2
-    cast-t9
-    add-t10
+    cast-t10
+    add-t11
+    cast-t14
     enum-known-said-3
     returns
     returns-2

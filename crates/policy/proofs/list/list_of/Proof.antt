@@ -1,4 +1,4 @@
--- `policy::list::list_of` meets its contract: what the reader says, with ten words for each rule. Assumes nothing.
+-- `policy::list::list_of` meets its contract: what the reader says, with the words of each rule. Assumes nothing.
 use native.Mathlib.Omega.{arith}
 use borrow.Author.Needs.{needs}
 use Rattle.policy.proofs.Listing.{list-refused, list-found, list-within}

@@ -6,14 +6,8 @@ use Rattle.rule_file.proofs.ReadLines.{first-taken, first-wrong, first-
 use Rattle.rule_file.proofs.read.first_line.Statement.{statement}
 use Rattle.rule_file.proofs.read.first_line.Tie as tie
 
-slice-aggregate-line : tie.Need-slice-aggregate-line
-slice-aggregate-line c = search needs
-
-slice-aggregate-line-2 : tie.Need-slice-aggregate-line-2
-slice-aggregate-line-2 c = search needs
-
-line-requires : tie.Need-line-requires
-line-requires c κs = search needs
+first-fields-requires : tie.Need-first-fields-requires
+first-fields-requires c κs = search needs
 
 enum-known-said : tie.Need-enum-known-said
 enum-known-said c = search needs
@@ -34,32 +28,31 @@ returns : tie.Need-returns
 returns c =
     let m = c .before .before .before in
     let l = m .before .before .before in
-    let w = l .before .before .before .before in
-    let taken = line-next _ _ _ _ (l .line .ensures) (m .said2 .given .1) in
-    first-wrong (omega (arith, w .good)) taken (c .before .if1 .taken) (c .wrong .ensures)
+    let w = l .before .before in
+    let taken = line-next _ _ _ _ (l .first-fields .ensures) (m .said2 .given .1) in
+    first-wrong (w .args .kind) (omega (arith, w .good)) taken (c .before .if1 .taken) (c .wrong .ensures)
 
 returns-2 : tie.Need-returns-2
 returns-2 c =
     let m = c .before in
     let l = m .before .before .before in
-    let w = l .before .before .before .before in
-    first-not (omega (arith, w .good)) (line-refused _ _ _ _ (l .line .ensures) (m .said .given .1))
+    let w = l .before .before in
+    first-not (w .args .kind) (omega (arith, w .good))
+    (line-refused _ _ _ _ (l .first-fields .ensures) (m .said .given .1))
 
 returns-3 : tie.Need-returns-3
 returns-3 c =
     let m = c .before .before in
     let l = m .before .before .before in
-    let w = l .before .before .before .before in
-    let taken = line-next _ _ _ _ (l .line .ensures) (m .said2 .given .1) in
-    first-taken (omega (arith, w .good)) taken (c .if1 .left)
+    let w = l .before .before in
+    let taken = line-next _ _ _ _ (l .first-fields .ensures) (m .said2 .given .1) in
+    first-taken (w .args .kind) (omega (arith, w .good)) taken (c .if1 .left)
 
 pub first-line-spec : {M : Type 1} → statement M
 first-line-spec =
     tie.close
     (tie.spec
-    slice-aggregate-line
-    slice-aggregate-line-2
-    line-requires
+    first-fields-requires
     enum-known-said
     enum-known-said-2
     array-read-n

@@ -8,14 +8,8 @@ use Rattle.rule_file.proofs.ReadLines.{rule-taken, rule-wrong, rule-not
 use Rattle.rule_file.proofs.read.rule_line.Statement.{statement}
 use Rattle.rule_file.proofs.read.rule_line.Tie as tie
 
-slice-aggregate-line : tie.Need-slice-aggregate-line
-slice-aggregate-line c = search needs
-
-slice-aggregate-line-2 : tie.Need-slice-aggregate-line-2
-slice-aggregate-line-2 c = search needs
-
-line-requires : tie.Need-line-requires
-line-requires c κs = search needs
+rule-fields-requires : tie.Need-rule-fields-requires
+rule-fields-requires c κs = search needs
 
 enum-known-said : tie.Need-enum-known-said
 enum-known-said c = search needs
@@ -33,27 +27,24 @@ returns : tie.Need-returns
 returns c =
     let m = c .before .before .before .before in
     let l = m .before .before .before in
-    let w = l .before .before .before .before .before in
-    let taken = line-next _ _ _ _ (l .line .ensures) (m .said2 .given .1) in
+    let w = l .before .before .before in
+    let taken = line-next _ _ _ _ (l .rule-fields .ensures) (m .said2 .given .1) in
     let test = failed (c .before .before .rule-fits .ensures) (c .before .if1 .taken) in
-    rule-wrong (omega (arith, w .good)) (w .pre .0) _ taken test (c .wrong .ensures)
+    rule-wrong (w .args .kind) (omega (arith, w .good)) (w .pre .0) _ taken test (c .wrong .ensures)
 
 rule-of-requires : tie.Need-rule-of-requires
 rule-of-requires c κs = search needs
 
 store-rule-requires : tie.Need-store-rule-requires
-store-rule-requires c κs =
-    let m = c .before .before .before .before .before in
-    let w = m .before .before .before .before .before .before .before .before in
-    w .pre .1
+store-rule-requires c κs = search needs
 
 returns-2 : tie.Need-returns-2
 returns-2 c =
     let m = c .before in
     let l = m .before .before .before in
-    let w = l .before .before .before .before .before in
-    let refused = line-refused _ _ _ _ (l .line .ensures) (m .said .given .1) in
-    rule-not (omega (arith, w .good)) (w .pre .0) _ refused
+    let w = l .before .before .before in
+    let refused = line-refused _ _ _ _ (l .rule-fields .ensures) (m .said .given .1) in
+    rule-not (w .args .kind) (omega (arith, w .good)) (w .pre .0) _ refused
 
 same-length : tie.Need-same-length
 same-length c = search needs
@@ -64,19 +55,17 @@ returns-3 c =
     let t = p .before .before .before in
     let m = t .before .before .before in
     let l = m .before .before .before in
-    let w = l .before .before .before .before .before in
-    let taken = line-next _ _ _ _ (l .line .ensures) (m .said2 .given .1) in
+    let w = l .before .before .before in
+    let taken = line-next _ _ _ _ (l .rule-fields .ensures) (m .said2 .given .1) in
     let test = held (t .before .rule-fits .ensures) (t .if1 .left) in
     let stored = rw (p .before .rule-of .ensures) at (p .store-rule .ensures) in
-    rule-taken (omega (arith, w .good)) (w .pre .0) _ taken test stored
+    rule-taken (w .args .kind) (omega (arith, w .good)) (w .pre .0) _ taken test stored
 
 pub rule-line-spec : {M : Type 1} → statement M
 rule-line-spec =
     tie.close
     (tie.spec
-    slice-aggregate-line
-    slice-aggregate-line-2
-    line-requires
+    rule-fields-requires
     enum-known-said
     enum-known-said-2
     rule-fits-requires

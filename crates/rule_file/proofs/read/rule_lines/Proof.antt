@@ -1,7 +1,7 @@
 -- `rule_file::read::rule_lines` meets its contract: at each turn the rules before it are read. Assumes nothing.
 use Prim.Native.Nat.{_-_}
 use native.Mathlib.Omega.{arith}
-use mathlib.Core.Path.{_≡_, subst, sym, ap, _∙_}
+use mathlib.Core.Path.{_≡_, refl, subst, sym, ap, _∙_}
 use lib.ListN.{length}
 use lib.Seq.{length-sets}
 use denote.Ref.{now}
@@ -14,11 +14,11 @@ use Rattle.rule_file.proofs.read.rule_lines.Statement.{statement}
 use Rattle.rule_file.proofs.read.rule_lines.Tie as tie
 
 abbrev Inv-loop : tie.InvT-loop
-Inv-loop text n rules₀ at₀ lines₀ i₀ rules at lines i =
-    ReadSoFar text rules₀ n (cursorAt at₀ lines₀) i (cursorAt at lines) rules
+Inv-loop text kind n rules₀ at₀ lines₀ i₀ rules at lines i =
+    ReadSoFar kind text rules₀ n (cursorAt at₀ lines₀) i (cursorAt at lines) rules
 
 abbrev μ-loop : tie.MeasureT-loop
-μ-loop text n rules₀ at₀ lines₀ i₀ rules at lines i = n - i
+μ-loop text kind n rules₀ at₀ lines₀ i₀ rules at lines i = n - i
 
 -- what is stored leaves the length as it was
 rules-kept :
@@ -42,7 +42,7 @@ same-length : tie.Need-same-length Inv-loop μ-loop
 same-length c =
     let r = c .before .before .before .before .before in
     let l = r .before .before .before in
-    r .rule-line .kept .1 .1 .1 .0 ∙ rules-kept l
+    r .rule-line .kept .1 .1 .1 .1 .0 ∙ rules-kept l
 
 returns : tie.Need-returns Inv-loop μ-loop
 returns c =
@@ -50,7 +50,7 @@ returns c =
     let l = r .before .before .before in
     let w = l .before .before .before in
     let here = cursorAt (l .loop .at) (l .loop .lines) in
-    let Is = RuleLineRead (now (w .args .text)) here (l .loop .i) (l .loop .rules) _ in
+    let Is = RuleLineRead (w .args .kind) (now (w .args .text)) here (l .loop .i) (l .loop .rules) _ in
     let line = subst Is (c .before .why .given .1) (r .rule-line .ensures) in
     so-far-refused (l .loop .inv) (r .before .before .loop-test .taken) line
 
@@ -72,7 +72,7 @@ loop-again c =
     let l = r .before .before .before in
     let w = l .before .before .before in
     let here = cursorAt (l .loop .at) (l .loop .lines) in
-    let Is = RuleLineRead (now (w .args .text)) here (l .loop .i) (l .loop .rules) _ in
+    let Is = RuleLineRead (w .args .kind) (now (w .args .text)) here (l .loop .i) (l .loop .rules) _ in
     let line = subst Is (c .before .d .given .1) (r .rule-line .ensures) in
     so-far-step (l .loop .inv) (r .before .before .loop-test .taken) line
 
@@ -106,7 +106,7 @@ returns-3 c =
     let e = c .before .before in
     let l = e .before .before in
     let w = l .before .before .before in
-    so-far-ends (l .loop .inv) (omega (arith, w .good)) (e .before .loop-test .left) (w .pre .1)
+    so-far-ends (l .loop .inv) (omega (arith, w .good)) (e .before .loop-test .left) refl (w .pre .1)
     (sym (c .enum-told .given .1) ∙ e .end-line .ensures)
 
 pub rule-lines-spec : {M : Type 1} → statement M

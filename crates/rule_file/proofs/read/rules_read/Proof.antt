@@ -8,8 +8,10 @@ use lib.Seq.{length-take-le}
 use denote.Ref.{now}
 use borrow.Author.Needs.{needs}
 use Rattle.rules.specs.Words.{ruleWords, mostRules}
+use Rattle.rule_file.specs.declared.kind.Kind.{Kind}
 use Rattle.rule_file.specs.declared.read.Read.{Read}
 use Rattle.rule_file.specs.declared.read.Read.the-variants.{Rules}
+use Rattle.rule_file.specs.Kinds.{kindOf}
 use Rattle.rule_file.specs.RuleText.{linesIn}
 use Rattle.rule_file.specs.ReadSteps.{PassRead}
 use Rattle.rule_file.proofs.ReadAnswers.{text-refused, words-answer, stored-front}
@@ -19,11 +21,11 @@ use Rattle.rule_file.proofs.read.rules_read.Tie as tie
 -- what reading the lines found
 found :
     (p : tie.After-read-lines) {r : Read} → p .read-lines .result ≡ r →
-    PassRead (linesIn (now (p .before .before .before .before .args .text))) (replicate (mostRules * ruleWords) 0)
-    (p .read-lines .last .1 .0) r
+    let s = now (p .before .before .before .before .args .text) in
+    PassRead (kindOf s) (linesIn s) (replicate (mostRules * ruleWords) 0) (p .read-lines .last .1 .0) r
 found p e =
-    let text = now (p .before .before .before .before .args .text) in
-    subst (PassRead (linesIn text) (replicate (mostRules * ruleWords) 0) _) e (p .read-lines .ensures)
+    let s = now (p .before .before .before .before .args .text) in
+    subst (PassRead (kindOf s) (linesIn s) (replicate (mostRules * ruleWords) 0) _) e (p .read-lines .ensures)
 
 -- there is room for the words of as many rules as there may be
 room : length (replicate {A = ℕ} (mostRules * ruleWords) 0) ≡ mostRules * ruleWords
@@ -31,7 +33,7 @@ room = length-replicate {A = ℕ} (mostRules * ruleWords) 0
 
 -- the words that were counted are among them
 within :
-    (p : tie.After-read-lines) {n : ℕ} → p .read-lines .result ≡ Rules n →
+    (p : tie.After-read-lines) {n : ℕ} {k : Kind} → p .read-lines .result ≡ Rules n k →
     n * ruleWords ≤ length (p .read-lines .last .1 .0)
 within p e = omega (arith, found p e .few, p .read-lines .kept .1 .0, room)
 
@@ -73,7 +75,8 @@ returns-2 c =
     let m = w .before .before .before .before in
     let p = m .before .before .before in
     let stored = found p (m .count .given .1) in
-    words-answer _ (stored .words) (stored .says) (rw (stored-front stored room) at (w .take-words .ensures))
+    words-answer _ (stored .words) (stored .says) (stored .kind)
+    (rw (stored-front stored room) at (w .take-words .ensures))
 
 pub rules-read-spec : {M : Type 1} → statement M
 rules-read-spec =

@@ -58,6 +58,9 @@ array-read-t41 c = search needs
 array-read-t44 : tie.Need-array-read-t44
 array-read-t44 c = search needs
 
+array-read-t47 : tie.Need-array-read-t47
+array-read-t47 c = search needs
+
 returns : tie.Need-returns
 unfolding ruleOf
 returns c = rw (c .before .address-of .ensures, c .address-of2 .ensures)
@@ -84,4 +87,5 @@ rule-of-spec =
     array-read-t38
     array-read-t41
     array-read-t44
+    array-read-t47
     returns)

@@ -67,6 +67,9 @@ array-read-t56 c = search needs
 array-read-t59 : tie.Need-array-read-t59
 array-read-t59 c = search needs
 
+array-read-t62 : tie.Need-array-read-t62
+array-read-t62 c = search needs
+
 returns : tie.Need-returns
 unfolding ruleValues
 returns c = rw (c .before .octets-of .ensures, c .octets-of2 .ensures)
@@ -96,4 +99,5 @@ values-of-spec =
     array-read-t53
     array-read-t56
     array-read-t59
+    array-read-t62
     returns)

@@ -8,22 +8,22 @@ use Rattle.text.specs.Puts.{Put}
 use Rattle.text.proofs.Files.{text-none, text-more}
 use Rattle.text.proofs.Puts.{put-none, put-then, put-same, put-length}
 use Rattle.rules.specs.Words.{ruleWords, mostRules, ruleCount}
-use Rattle.rules.proofs.Lists.{good-of-fine}
+use Rattle.rules.proofs.Lists.{fine-iff-good}
 use Rattle.rule_file.specs.ListText.{ruleLines}
-use Rattle.rule_file.specs.RuleText.{rulesFormat}
+use Rattle.rule_file.specs.RuleText.{formatOf}
 use Rattle.rule_file.proofs.Writing.{text-parts}
 use Rattle.rule_file.proofs.write.write_pass.Statement.{statement}
 use Rattle.rule_file.proofs.write.write_pass.Tie as tie
 
 abbrev Inv-loop : tie.InvT-loop
-Inv-loop rules text₀ count at₀ i₀ text at i =
-    Put text₀ at₀ (unlines (ruleLines rulesFormat rules i)) text at × (count ≡ ruleCount rules) × (i ≤ count)
+Inv-loop kind rules text₀ count at₀ i₀ text at i =
+    Put text₀ at₀ (unlines (ruleLines (formatOf kind) rules i)) text at × (count ≡ ruleCount rules) × (i ≤ count)
 
 abbrev μ-loop : tie.MeasureT-loop
-μ-loop rules text₀ count at₀ i₀ text at i = count - i
+μ-loop kind rules text₀ count at₀ i₀ text at i = count - i
 
 put-first-requires : tie.Need-put-first-requires Inv-loop μ-loop
-put-first-requires c κs = omega (arith, good-of-fine _ (c .before .before .before .pre) .few)
+put-first-requires c κs = omega (arith, fine-iff-good _ _ .0 (c .before .before .before .pre) .0 .few)
 
 loop-holds : tie.Need-loop-holds Inv-loop μ-loop
 loop-holds c = (put-same (sym (text-none _)) (put-none _ _ (omega arith)), refl, omega arith)
@@ -35,7 +35,7 @@ few-rules :
     length (w .args .rules .now) ≤ mostRules * ruleWords
 few-rules l =
     let w = l .before .before .before .before .before .before .before in
-    good-of-fine (w .args .rules .now) (w .pre) .few
+    fine-iff-good _ (w .args .rules .now) .0 (w .pre) .0 .few
 
 put-rule-requires : tie.Need-put-rule-requires Inv-loop μ-loop
 put-rule-requires c κs = (omega (arith, few-rules (c .before .before)), omega arith)

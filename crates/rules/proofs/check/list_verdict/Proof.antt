@@ -1,37 +1,13 @@
--- `rules::check::list_verdict` meets its contract: what refuses before twins do decides first, and then twins. Assumes
--- nothing.
-use native.Mathlib.Omega.{arith}
-use mathlib.Core.Path.{sym, _∙_}
+-- `rules::check::list_verdict` meets its contract: the list is judged with the largest action. Assumes nothing.
 use borrow.Author.Needs.{needs}
-use Rattle.rules.proofs.Lists.{rules-fine-iff, rules-refuse, twins-decide}
 use Rattle.rules.proofs.check.list_verdict.Statement.{statement}
 use Rattle.rules.proofs.check.list_verdict.Tie as tie
 
-rules-verdict-requires : tie.Need-rules-verdict-requires
-rules-verdict-requires c κs = search needs
-
-enum-known-why : tie.Need-enum-known-why
-enum-known-why c = search needs
-
-enum-told : tie.Need-enum-told
-enum-told c = search needs
-
-twins-verdict-requires : tie.Need-twins-verdict-requires
-twins-verdict-requires c κs =
-    let fine = sym (c .before .before .rules-verdict .ensures) ∙ c .enum-told .given .1 in
-    omega (arith, rules-fine-iff _ .0 fine .few)
+verdict-to-requires : tie.Need-verdict-to-requires
+verdict-to-requires c κs = search needs
 
 returns : tie.Need-returns
-returns c =
-    sym (rules-refuse _ (sym (c .before .before .before .rules-verdict .ensures) ∙ c .before .why .given .1))
-
-returns-2 : tie.Need-returns-2
-returns-2 c =
-    let told = c .before in
-    let fine = sym (told .before .before .rules-verdict .ensures) ∙ told .enum-told .given .1 in
-    c .twins-verdict .ensures ∙ sym (twins-decide _ fine)
+returns c = c .verdict-to .ensures
 
 pub list-verdict-spec : {M : Type 1} → statement M
-list-verdict-spec =
-    tie.close
-    (tie.spec rules-verdict-requires enum-known-why enum-told twins-verdict-requires returns returns-2)
+list-verdict-spec = tie.close (tie.spec verdict-to-requires returns)

@@ -13,12 +13,12 @@ rule-there-requires c κs = search needs
 returns : tie.Need-returns
 returns c = not-there-not-good _ _ (failed (c .before .rule-there .ensures) (c .if1 .taken))
 
-good-requires : tie.Need-good-requires
-good-requires c κs = ltb-true _ _ (held (c .before .rule-there .ensures) (c .if1 .left))
+good-to-requires : tie.Need-good-to-requires
+good-to-requires c κs = ltb-true _ _ (held (c .before .rule-there .ensures) (c .if1 .left))
 
 returns-2 : tie.Need-returns-2
 returns-2 c =
-    c .good2 .ensures ∙ good-decides _ _ (held (c .before .before .rule-there .ensures) (c .before .if1 .left))
+    c .good-to .ensures ∙ good-decides _ _ (held (c .before .before .rule-there .ensures) (c .before .if1 .left))
 
 pub rule-good-spec : {M : Type 1} → statement M
-rule-good-spec = tie.close (tie.spec rule-there-requires returns good-requires returns-2)
+rule-good-spec = tie.close (tie.spec rule-there-requires returns good-to-requires returns-2)

@@ -34,12 +34,16 @@ matches-requires c κs =
     let start = c .before .before .before .before .before in
     (omega (arith, scan-count-at-most (now (start .args .rules))), start .pre)
 
+action-of-requires : tie.Need-action-of-requires Inv-loop μ-loop
+action-of-requires c κs = search needs
+
 returns : tie.Need-returns Inv-loop μ-loop
 unfolding scanned
 returns c =
-    let h = c .before .before .before in
+    let h = c .before .before .before .before in
     let step = up-step (scanCount (now (h .before .before .before .before .args .rules))) (h .loop .r) (omega arith) in
-    found-first _ _ (first-found (h .loop .inv .2) step (sym (c .before .matches .ensures) ∙ c .if1 .taken))
+    let found = sym (c .before .before .matches .ensures) ∙ c .before .if1 .taken in
+    found-first _ _ (first-found (h .loop .inv .2) step found) (c .action-of .ensures)
 
 add-r : tie.Need-add-r Inv-loop μ-loop
 add-r c = omega arith
@@ -66,6 +70,7 @@ first-match-spec =
     scan-count-requires
     loop-holds
     matches-requires
+    action-of-requires
     returns
     add-r
     loop-less

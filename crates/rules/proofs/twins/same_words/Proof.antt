@@ -7,16 +7,16 @@ use lib.Dec.{eqb}
 use borrow.Author.Tests.{eq-eqb, ne-eqb}
 use borrow.Author.Needs.{needs}
 use Rattle.facts.proofs.Below.{AllPassed, passed-first, passed-step, passed-stop, passed-last}
-use Rattle.rules.specs.Words.{ruleWords, wordOf}
+use Rattle.rules.specs.Words.{matchWords, wordOf}
 use Rattle.rules.specs.Twins.{sameWords}
 use Rattle.rules.proofs.twins.same_words.Statement.{statement}
 use Rattle.rules.proofs.twins.same_words.Tie as tie
 
 abbrev Inv-loop : tie.InvT-loop
-Inv-loop rules q r j₀ j = AllPassed ruleWords (λ j. eqb (wordOf rules q j) (wordOf rules r j)) j
+Inv-loop rules q r j₀ j = AllPassed matchWords (λ j. eqb (wordOf rules q j) (wordOf rules r j)) j
 
 abbrev μ-loop : tie.MeasureT-loop
-μ-loop rules q r j₀ j = ruleWords - j
+μ-loop rules q r j₀ j = matchWords - j
 
 loop-holds : tie.Need-loop-holds Inv-loop μ-loop
 loop-holds c = passed-first _ _

@@ -3,7 +3,7 @@ use Prim.Native.Nat.{_+_, _*_, _-_}
 use native.Mathlib.Omega.{arith}
 use mathlib.Core.Path.{_∙_}
 use borrow.Author.Needs.{needs}
-use Rattle.rules.specs.Words.{ruleWords, wordOf}
+use Rattle.rules.specs.Words.{ruleWords, matchWords, wordOf}
 use Rattle.rules.proofs.Slots.{Mixed, mixed-first, mixed-step, product-fits, sum-fits, mixed-last}
 use Rattle.rules.proofs.twins.slot_of.Statement.{statement}
 use Rattle.rules.proofs.twins.slot_of.Tie as tie
@@ -12,7 +12,7 @@ abbrev Inv-loop : tie.InvT-loop
 Inv-loop rules r mix₀ k₀ mix k = Mixed (wordOf rules r) mix k
 
 abbrev μ-loop : tie.MeasureT-loop
-μ-loop rules r mix₀ k₀ mix k = ruleWords - k
+μ-loop rules r mix₀ k₀ mix k = matchWords - k
 
 loop-holds : tie.Need-loop-holds Inv-loop μ-loop
 loop-holds c = mixed-first _

@@ -42,14 +42,19 @@ wide-requires c κs = search needs
 rule-matches-requires : tie.Need-rule-matches-requires Inv-loop μ-loop
 rule-matches-requires c κs = search needs
 
-add-t12 : tie.Need-add-t12 Inv-loop μ-loop
-add-t12 c = omega arith
+action-of-requires : tie.Need-action-of-requires Inv-loop μ-loop
+action-of-requires c κs = search needs
+
+add-t14 : tie.Need-add-t14 Inv-loop μ-loop
+add-t14 c = omega arith
 
 returns : tie.Need-returns Inv-loop μ-loop
 returns c =
-    let h = c .before .before .before .before .before in
-    let turn = c .before .before .before .before .loop-test .taken in
-    first-is _ (h .loop .inv .1) (drop-step _ (h .loop .i) turn) (said (c .before) ∙ c .if1 .taken)
+    let t = c .before in
+    let h = t .before .before .before .before .before in
+    let turn = t .before .before .before .before .loop-test .taken in
+    let action = rw (t .before .before .wide .ensures) at (c .action-of .ensures) in
+    first-is _ (h .loop .inv .1) (drop-step _ (h .loop .i) turn) (said (t .before) ∙ t .if1 .taken) action
 
 add-i : tie.Need-add-i Inv-loop μ-loop
 add-i c = omega arith
@@ -77,7 +82,8 @@ first-entry-spec =
     shared-slice-read-number
     wide-requires
     rule-matches-requires
-    add-t12
+    action-of-requires
+    add-t14
     returns
     add-i
     loop-less

@@ -1,5 +1,5 @@
--- `rules::check::good` meets its contract: a field that is not good ends it. The invariant: the fields before this one
--- are good. Assumes nothing.
+-- `rules::check::fields_good` meets its contract: a field that is not good ends it. The invariant: the fields before this
+-- one are good. Assumes nothing.
 use Prim.Native.Nat.{_-_}
 use native.Mathlib.Omega.{arith}
 use borrow.Author.Needs.{needs}
@@ -8,9 +8,9 @@ use Rattle.facts.proofs.Below.{AllPassed, passed-first, passed-step, passed-sto
 use Rattle.fields.specs.Words.{fieldCount}
 use Rattle.fields.specs.Fields.{fieldGood}
 use Rattle.rules.specs.Words.{formOf, fieldOf}
-use Rattle.rules.specs.Good.{good}
-use Rattle.rules.proofs.check.good.Statement.{statement}
-use Rattle.rules.proofs.check.good.Tie as tie
+use Rattle.rules.specs.Good.{fieldsGood}
+use Rattle.rules.proofs.check.fields_good.Statement.{statement}
+use Rattle.rules.proofs.check.fields_good.Tie as tie
 
 abbrev Inv-loop : tie.InvT-loop
 Inv-loop rules r f₀ f = AllPassed fieldCount (λ f. fieldGood (fieldOf (formOf f) rules r)) f
@@ -28,7 +28,7 @@ field-good-requires : tie.Need-field-good-requires Inv-loop μ-loop
 field-good-requires c κs = search needs
 
 returns : tie.Need-returns Inv-loop μ-loop
-unfolding good
+unfolding fieldsGood
 returns c =
     let said = rw (c .before .before .field-of .ensures) at (c .before .field-good .ensures) in
     passed-stop (c .before .before .before .before .loop .inv) (omega arith) (failed said (c .if1 .taken))
@@ -45,11 +45,11 @@ loop-again c =
     passed-step (c .before .before .before .before .loop .inv) (omega arith) (held said (c .if1 .left))
 
 returns-2 : tie.Need-returns-2 Inv-loop μ-loop
-unfolding good
+unfolding fieldsGood
 returns-2 c = passed-last (c .before .loop .inv) (c .loop-test .left)
 
-pub good-spec : {M : Type 1} → statement M
-good-spec =
+pub fields-good-spec : {M : Type 1} → statement M
+fields-good-spec =
     tie.close
     (tie.spec
     Inv-loop

@@ -14,16 +14,18 @@
  * A packet has its addresses and ports in network order: put them through ntohl and ntohs first. Without that they are
  * other addresses and other ports: no call refuses them for that, and the answer is wrong.
  *
- * A RULE is ten words (WICK_RULE_WORDS):
+ * A RULE is eleven words (WICK_RULE_WORDS):
  *     0  source address                       1  its length: how many of the first bits count, 0 to 32
  *     2  destination address                  3  its length
  *     4  lowest source port                   5  highest source port
  *     6  lowest destination port              7  highest destination port
  *     8  lowest protocol                      9  highest protocol
+ *    10  its action (WICK_ACTION)
  * It is good if each length is at most 32, the address bits past the length are 0, no low end is over its high end,
- * ports are at most 65,535 and protocols at most 255. A list is up to WICK_MOST_RULES rules, one after another, no two
- * of which have the same ten words. They are numbered from 0, and of the rules that match a header the lowest number
- * decides.
+ * ports are at most 65,535, and protocols and the action at most 255. A list is up to WICK_MOST_RULES rules, one after
+ * another, no two of which have the same words 0 to 9. They are numbered from 0, and of the rules that match a header
+ * the lowest number decides. A first-match gives the action of the rule that it finds; what the action means is the
+ * caller's to say.
  *
  * A HEADER is five words (WICK_HEADER_WORDS), fields 0 to 4: source address, destination address, source port,
  * destination port, protocol. Ports are at most 65,535, the protocol is at most 255. A packet without ports has 0 for
@@ -77,10 +79,10 @@ typedef struct wick_answer {
  * them. */
 enum {
     WICK_COMPLETED = 0,
-    /* The rule words are not a multiple of ten, or over 5,120; or a tree or a part to write is for more than 512
+    /* The rule words are not a multiple of eleven, or over 5,632; or a tree or a part to write is for more than 512
      * rules. */
     WICK_RULE_WORDS_WRONG = 1,
-    /* A rule is not good: place is the lowest such rule. */
+    /* A rule is not good: place is the lowest such rule. For wick_rules_write, also where its action is not 0. */
     WICK_RULE_NOT_GOOD = 2,
     /* The header is not five words: place 5. Or a port or the protocol is too large: place is the lowest such field. */
     WICK_HEADER_WRONG = 3,
@@ -101,7 +103,8 @@ enum {
     /* The text stops before its end line: place is the number of whole lines; what follows the last newline is not
      * read. */
     WICK_TEXT_STOPS = 10,
-    /* A rule has the ten words of an earlier one: place is the lowest such rule, extra the earlier one. */
+    /* A rule has the words 0 to 9 of an earlier one, whatever their actions: place is the lowest such rule, extra the
+     * earlier one. */
     WICK_RULE_HAS_TWIN = 11,
     /* No call gives this. The program does, for a file that cannot be read to its end or is over 65,536 bytes. */
     WICK_FILE_NOT_READ = 12
@@ -109,15 +112,17 @@ enum {
 
 /* The limits, and the words of what is lent. */
 enum {
-    WICK_RULE_WORDS = 10,
+    WICK_RULE_WORDS = 11,
+    WICK_ACTION = 10, /* the word of a rule that is its action */
     WICK_HEADER_WORDS = 5,
     WICK_NODE_WORDS = 3,
     WICK_LEAF = 5, /* the first word of a leaf */
     WICK_ADDRESS_BITS = 32,
     WICK_LARGEST_PORT = 65535,
     WICK_LARGEST_PROTOCOL = 255,
+    WICK_LARGEST_ACTION = 255,
     WICK_MOST_RULES = 512,
-    WICK_MOST_RULE_WORDS = 5120,
+    WICK_MOST_RULE_WORDS = 5632,
     WICK_MOST_NODES = 2047,
     WICK_MOST_NODE_WORDS = 6141,
     WICK_MOST_POOL_WORDS = 4096,
@@ -135,7 +140,7 @@ void wick_line_all(const uint32_t *rules, uint64_t rules_len, const uint32_t *he
                    uint32_t *out, uint64_t out_len, wick_answer *answer);
 
 /* Judges the list, then searches it line by line for the lowest rule that matches. Refuses with 1, 2, 11, 3. a: the
- * rule's number + 1, or 0 where none matches. */
+ * rule's number + 1, or 0 where none matches, and d: its action, or 0 where none matches. */
 void wick_line_first(const uint32_t *rules, uint64_t rules_len, const uint32_t *header, uint64_t header_len,
                      wick_answer *answer);
 
@@ -149,7 +154,7 @@ void wick_scan_all(const uint32_t *rules, uint64_t rules_len, const uint32_t *he
                    uint32_t *out, uint64_t out_len, wick_answer *answer);
 
 /* As wick_line_first, but the list is not judged: it takes any words, as wick_scan_all does. Refuses with 3. a: the
- * rule's number + 1, or 0 where none matches. */
+ * rule's number + 1, or 0 where none matches, and d: its word 10 as it stands, or 0 where none matches. */
 void wick_scan_first(const uint32_t *rules, uint64_t rules_len, const uint32_t *header, uint64_t header_len,
                      wick_answer *answer);
 
@@ -165,7 +170,8 @@ void wick_tree_all(const uint32_t *rules, uint64_t rules_len, const uint32_t *no
 /* Searches the tree for the first rule of the reached leaf that matches. WARNING: it takes any words and judges neither
  * the list nor the tree. Search only a tree that wick_tree_check has accepted, or wick_build has built, for these
  * rules: see UNCHECKED TREES. Refuses with 3, 6, 7. a: the rule's number + 1, or 0 where none matches, b: the nodes
- * visited, with root and leaf, and c: the entries compared, up to and with the match. */
+ * visited, with root and leaf, c: the entries compared, up to and with the match, and d: the rule's word 10 as it
+ * stands, or 0 where none matches. */
 void wick_tree_first(const uint32_t *rules, uint64_t rules_len, const uint32_t *nodes, uint64_t nodes_len,
                      const uint32_t *pool, uint64_t pool_len, const uint32_t *header, uint64_t header_len,
                      wick_answer *answer);
@@ -206,14 +212,20 @@ void wick_build_on(const uint32_t *rules, uint64_t rules_len, uint64_t rule_coun
                    uint64_t part_nodes_len, const uint32_t *part_pool, uint64_t part_pool_len, uint64_t most,
                    uint32_t *nodes, uint64_t nodes_len, uint32_t *pool, uint64_t pool_len, wick_answer *answer);
 
-/* Writes the list as a rules file. Refuses with 1, 2, 11, 4. Writes the file's bytes to the front of `text`; the rest
- * of `text` is as found. WICK_MOST_FILE_BYTES bytes are always enough. a: how many bytes it wrote. */
+/* Writes the list as a rules file, which has no actions. Refuses with 1, then 2 at the lowest rule that is not good or
+ * whose action is not 0, then 11, then 4. Writes the file's bytes to the front of `text`; the rest of `text` is as
+ * found. WICK_MOST_FILE_BYTES bytes are always enough. a: how many bytes it wrote. */
 void wick_rules_write(const uint32_t *rules, uint64_t rules_len, uint8_t *text, uint64_t text_len, wick_answer *answer);
 
-/* Reads a rules file, which is the whole of `text`. Refuses with 9 or 10 at the first fault, then 11, then 4.
- * Place and extra of 11 are rules, not lines. Writes ten words for each rule to the front of `rules`; the rest of
- * `rules` is as found. WICK_MOST_RULE_WORDS words are always enough. What it has read is a good list. a: the number of
- * rules. */
+/* Writes the list as an acl file, in which each rule has its action. Refuses with 1, 2, 11, 4. Writes as
+ * wick_rules_write does, and WICK_MOST_FILE_BYTES bytes are always enough. a: how many bytes it wrote. */
+void wick_acl_write(const uint32_t *rules, uint64_t rules_len, uint8_t *text, uint64_t text_len, wick_answer *answer);
+
+/* Reads a rules file or an acl file, which is the whole of `text`. Refuses with 9 or 10 at the first fault, then 11,
+ * then 4. Place and extra of 11 are rules, not lines. Writes eleven words for each rule to the front of `rules`, of
+ * which the action is 0 where the file is a rules file; the rest of `rules` is as found. WICK_MOST_RULE_WORDS words are
+ * always enough. What it has read is a good list. a: the number of rules, and b: 1 for an acl file, 0 for a rules
+ * file. */
 void wick_rules_read(const uint8_t *text, uint64_t text_len, uint32_t *rules, uint64_t rules_len, wick_answer *answer);
 
 /* Writes the tree, which is for a list of `rule_count` rules, as a tree file. Refuses with 1, 5, then 6 or 7 at the

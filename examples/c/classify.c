@@ -14,6 +14,7 @@ struct policy {
     uint32_t nodes[WICK_MOST_NODE_WORDS];
     uint32_t pool[WICK_MOST_POOL_WORDS];
     uint64_t rules_len, nodes_len, pool_len;
+    int has_actions; // where rules.txt is an acl file
     int tree_serves; // only once the check has accepted the tree for these rules
 };
 
@@ -61,6 +62,7 @@ static int load_rules(const char *folder) {
         return 0;
     }
     policy.rules_len = WICK_RULE_WORDS * answer.a;
+    policy.has_actions = answer.b == 1;
     printf("%lu rules\n", number(answer.a));
     return 1;
 }
@@ -123,7 +125,9 @@ static void classify(const uint32_t header[WICK_HEADER_WORDS]) {
         printf("no rule\n");
         return;
     }
-    printf("rule %u first, of", found[0]);
+    printf("rule %u first,", found[0]);
+    if (policy.has_actions) printf(" action %u,", policy.rules[WICK_RULE_WORDS * found[0] + WICK_ACTION]);
+    printf(" of");
     for (uint64_t i = 0; i < answer.a; i++) printf(" %u", found[i]);
     printf("\n");
 }

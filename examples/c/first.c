@@ -1,4 +1,4 @@
-// Says which rule of a rules file decides about a packet: the lowest that matches.
+// Says which rule of a rules or acl file decides about a packet, the lowest that matches, and its action.
 //
 //     first RULES SOURCE DESTINATION SOURCE_PORT DESTINATION_PORT PROTOCOL
 
@@ -30,7 +30,7 @@ int main(int count, char **given) {
     uint32_t header[WICK_HEADER_WORDS];
     if (count != 7 || !address(given[2], &header[0]) || !address(given[3], &header[1]) ||
         !number(given[4], &header[2]) || !number(given[5], &header[3]) || !number(given[6], &header[4])) {
-        fprintf(stderr, "give a rules file, two addresses, two ports and a protocol\n");
+        fprintf(stderr, "give a rules or acl file, two addresses, two ports and a protocol\n");
         return 2;
     }
 
@@ -53,7 +53,7 @@ int main(int count, char **given) {
     if (answer.a == 0) {
         printf("no rule\n");
     } else {
-        printf("rule %lu\n", (unsigned long)answer.a - 1);
+        printf("rule %lu, action %lu\n", (unsigned long)answer.a - 1, (unsigned long)answer.d);
     }
     return 0;
 }

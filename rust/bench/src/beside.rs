@@ -1,157 +1,161 @@
-//! Times the rule check and the rules reader of two builds of the library, beside each other in one run.
+//! Times the rule check, the rules reader and the searches of two builds of the library, beside each other in one run.
 //!
 //!     ./archive
 //!     cc -shared -Wl,-Bsymbolic -Wl,--whole-archive target/native/libwickorchard.a -Wl,--no-whole-archive -o NOW.so
 //!     cargo run --release --manifest-path rust/Cargo.toml --package bench -- BEFORE.so NOW.so
 //!
 //! BEFORE.so is made by the first two lines in a clone of the tree as it was before. Both libraries are loaded into
-//! this program. Their answers and the words that they leave are compared first. Then they take turns, and each begins
-//! as often as the other, so that what slows the machine down for a while slows down both. The middle turn counts. A
-//! library beside a copy of itself shows how far two times of the same code lie apart.
+//! this program. A build from before rules had actions takes ten words for a rule: each is lent the list in its own
+//! width. Their answers and the words that they leave are compared first. Then they take turns, and each begins as
+//! often as the other, so that what slows the machine down for a while slows down both. The middle turn counts; on a
+//! machine that is busy with other programs the quicker turns tell more. A library beside a copy of itself shows how
+//! far two times of the same code lie apart.
 
-use std::ffi::{c_char, c_int, c_void, CStr, CString};
 use std::hint::black_box;
-use std::mem::transmute;
 use std::time::{Duration, Instant};
 
 use wickorchard::limits::{MOST_RULES, RULE_WORDS};
 use wickorchard::raw::Answer;
 
-use crate::scans::drawn_rule;
+use crate::builds::{services, zones};
+use crate::loaded::{Library, Tree};
+use crate::scans::{drawn_inside, drawn_rule};
 
 const TURNS: usize = 201;
-const CHECKS: usize = 1_000;
-const READS: usize = 20;
+/// Short, so that most turns are over before the system gives the processor to another program.
+const TURN: Duration = Duration::from_millis(2);
+const HEADERS: usize = 512;
 
-/// More bytes than the text of a list can have.
-const MOST_BYTES: usize = 1 << 16;
+type Rule = [u32; RULE_WORDS];
+/// A search by this library of this list for this header, with room for the numbers that match.
+type Search<'a> = &'a mut dyn FnMut(&Library, &[u32], &[u32; 5], &mut [u32]) -> Answer;
 
-extern "C" {
-    fn dlopen(file: *const c_char, how: c_int) -> *mut c_void;
-    fn dlsym(library: *mut c_void, name: *const c_char) -> *mut c_void;
-    fn dlerror() -> *const c_char;
-}
-
-/// Every name in the library is looked up as it is loaded.
-const RTLD_NOW: c_int = 2;
-
-type Check = unsafe extern "C" fn(*const u32, u64, *mut Answer);
-type Write = unsafe extern "C" fn(*const u32, u64, *mut u8, u64, *mut Answer);
-type Read = unsafe extern "C" fn(*const u8, u64, *mut u32, u64, *mut Answer);
-
-/// The calls of one build.
-struct Library {
-    check: Check,
-    write: Write,
-    read: Read,
-}
-
-impl Library {
-    fn load(file: &str) -> Library {
-        let text = |words: &str| CString::new(words).expect("there is no zero byte in it");
-        // SAFETY: the functions are as `include/wickorchard.h` declares them.
-        unsafe {
-            let library = dlopen(text(file).as_ptr(), RTLD_NOW);
-            assert!(!library.is_null(), "{:?}", CStr::from_ptr(dlerror()));
-            let named = |name| {
-                let function = dlsym(library, text(name).as_ptr());
-                assert!(!function.is_null(), "{:?}", CStr::from_ptr(dlerror()));
-                function
-            };
-            Library {
-                check: transmute::<*mut c_void, Check>(named("wick_rule_check")),
-                write: transmute::<*mut c_void, Write>(named("wick_rules_write")),
-                read: transmute::<*mut c_void, Read>(named("wick_rules_read")),
-            }
-        }
-    }
-
-    fn check(&self, rules: &[u32]) -> Answer {
-        let mut answer = [u64::MAX; 8];
-        // SAFETY: here and below, a slice's pointer and length are given together, and a slice that is written to is
-        // borrowed alone.
-        unsafe { (self.check)(rules.as_ptr(), rules.len() as u64, &mut answer) };
-        answer
-    }
-
-    /// The text of a good list.
-    fn write(&self, rules: &[u32]) -> Vec<u8> {
-        let (mut text, mut answer) = (vec![0; MOST_BYTES], [u64::MAX; 8]);
-        let (words, bytes) = (rules.len() as u64, text.len() as u64);
-        unsafe { (self.write)(rules.as_ptr(), words, text.as_mut_ptr(), bytes, &mut answer) };
-        assert_eq!(answer[0], 0, "the list is good, and there is room");
-        text.truncate(answer[3] as usize);
-        text
-    }
-
-    fn read(&self, text: &[u8], rules: &mut [u32]) -> Answer {
-        let mut answer = [u64::MAX; 8];
-        let (bytes, words) = (text.len() as u64, rules.len() as u64);
-        unsafe { (self.read)(text.as_ptr(), bytes, rules.as_mut_ptr(), words, &mut answer) };
-        answer
-    }
-}
-
-/// Loads the two builds, and times them on lists of 512 rules, and on the first three of them.
+/// Loads the two builds. Times the check and the reader on lists of 512 rules, and on the first three of one; then the
+/// searches on lists of 512 and of 64 rules.
 pub fn time(files: [&str; 2], draw: &mut impl FnMut() -> u32) {
     let libraries = files.map(Library::load);
-    let list = |rule: &mut dyn FnMut(u32) -> [u32; RULE_WORDS]| -> Vec<u32> {
-        (0..MOST_RULES as u32).flat_map(rule).collect()
-    };
+    println!("words of a rule: {:?}", libraries.each_ref().map(|library| library.rule_words));
+    let list = |rule: &mut dyn FnMut(u32) -> Rule| -> Vec<u32> { (0..MOST_RULES as u32).flat_map(rule).collect() };
     time_list("drawn prefixes and ranges", &list(&mut |_| drawn_rule(draw)), &libraries);
-    let hosts = list(&mut |_| [draw(), 32, draw(), 32, 0, 65_535, 0, 65_535, 0, 255]);
+    let hosts = list(&mut |_| [draw(), 32, draw(), 32, 0, 65_535, 0, 65_535, 0, 255, 0]);
     time_list("single hosts", &hosts, &libraries);
-    let zeros = list(&mut |number| [0, 0, 0, 0, 0, 65_535, 0, 65_535, number % 128, 255 - number / 128]);
+    let zeros = list(&mut |number| [0, 0, 0, 0, 0, 65_535, 0, 65_535, number % 128, 255 - number / 128, 0]);
     time_list("address zero, length 0", &zeros, &libraries);
     // By these steps, all rules come into one or two slots of `crates/rules/src/twins.rt`.
-    let crowded = list(&mut |number| [63_580 * number, 32, 0, 0, 0, 65_535, 0, 65_535, 0, 255]);
+    let crowded = list(&mut |number| [63_580 * number, 32, 0, 0, 0, 65_535, 0, 65_535, 0, 255, 0]);
     time_list("hosts that share a slot", &crowded, &libraries);
     time_list("three single hosts", &hosts[..3 * RULE_WORDS], &libraries);
+
+    for size in [MOST_RULES, 64] {
+        let drawn: Vec<u32> = (0..size).flat_map(|_| drawn_rule(draw)).collect();
+        time_searches(&format!("{size} drawn rules"), &drawn, draw, &libraries);
+        time_searches(&format!("{size} services"), &services(size as u32, draw).concat(), draw, &libraries);
+        time_searches(&format!("{size} zones"), &zones(size as u32, draw).concat(), draw, &libraries);
+    }
 }
 
 /// Compares what the two do with a good list, and then times them.
 fn time_list(name: &str, rules: &[u32], libraries: &[Library; 2]) {
     let counted = [0, 0, 0, (rules.len() / RULE_WORDS) as u64, 0, 0, 0, 0];
-    let text = libraries[0].write(rules);
-    for library in libraries {
+    let own = libraries.each_ref().map(|library| library.own(rules));
+    let text = libraries[0].write(&own[0]);
+    for (library, rules) in libraries.iter().zip(&own) {
         let mut words = vec![0; rules.len()];
         assert_eq!((library.check(rules), library.read(&text, &mut words)), (counted, counted));
-        assert_eq!((library.write(rules), words.as_slice()), (text.clone(), rules));
+        assert_eq!((library.write(rules), &words), (text.clone(), rules));
     }
-    say(
-        "rule check",
-        name,
-        in_turn(CHECKS, |which| {
-            black_box(libraries[which].check(black_box(rules)));
-        }),
-    );
+    let checks = in_turn(|which| {
+        black_box(libraries[which].check(black_box(&own[which])));
+    });
+    say("rule check", name, checks, 1);
     let mut words = vec![0; rules.len()];
-    say(
-        "reading",
-        name,
-        in_turn(READS, |which| {
-            black_box(libraries[which].read(black_box(&text), &mut words));
-        }),
-    );
+    let reads = in_turn(|which| {
+        black_box(libraries[which].read(black_box(&text), &mut words));
+    });
+    say("reading", name, reads, 1);
 }
 
-/// The middle turn of each build, for one call of it.
-fn in_turn(calls: usize, mut call: impl FnMut(usize)) -> [Duration; 2] {
+/// Compares what the two find for headers that rules of the good list match, and then times them: by the list, and by
+/// its tree where that is within the limits. The rules have action 0, so whole answers are compared.
+fn time_searches(name: &str, rules: &[u32], draw: &mut impl FnMut() -> u32, libraries: &[Library; 2]) {
+    let headers: Vec<[u32; 5]> = (0..HEADERS)
+        .map(|_| {
+            let at = RULE_WORDS * (draw() as usize % (rules.len() / RULE_WORDS));
+            drawn_inside(&rules[at..at + RULE_WORDS], draw)
+        })
+        .collect();
+    let own = libraries.each_ref().map(|library| library.own(rules));
+    let [tree, other] = [0, 1].map(|which| libraries[which].build(&own[which]));
+    assert_eq!(tree, other, "both build one tree");
+    let found = |which: usize, header| find(&libraries[which], &own[which], tree.as_ref(), header);
+    for header in &headers {
+        assert_eq!(found(0, header), found(1, header), "both find the same");
+    }
+
+    let mut out = [0; MOST_RULES];
+    let mut search = |call: &str, search: Search| {
+        let times = in_turn(|which| {
+            for header in &headers {
+                black_box(search(&libraries[which], &own[which], black_box(header), black_box(&mut out)));
+            }
+        });
+        say(call, name, times, HEADERS as u32);
+    };
+    search("line first", &mut |library, rules, header, _| library.line_first(rules, header));
+    search("scan first", &mut |library, rules, header, _| library.scan_first(rules, header));
+    search("scan all", &mut |library, rules, header, out| library.scan_all(rules, header, out));
+    let Some(tree) = &tree else { return println!("tree, {name}: over the limits") };
+    search("tree first", &mut |library, rules, header, _| library.tree_first(rules, tree, header));
+    search("tree all", &mut |library, rules, header, out| library.tree_all(rules, tree, header, out));
+}
+
+/// The answers of every search, and the numbers that they wrote.
+fn find(library: &Library, rules: &[u32], tree: Option<&Tree>, header: &[u32; 5]) -> (Vec<Answer>, [Vec<u32>; 2]) {
+    let mut out = [vec![0; MOST_RULES], vec![0; MOST_RULES]];
+    let [by_list, by_tree] = &mut out;
+    let mut answers = vec![
+        library.line_first(rules, header),
+        library.scan_first(rules, header),
+        library.scan_all(rules, header, by_list),
+    ];
+    if let Some(tree) = tree {
+        answers.push(library.tree_first(rules, tree, header));
+        answers.push(library.tree_all(rules, tree, header, by_tree));
+    }
+    assert!(answers.iter().all(|answer| answer[0] == 0 && answer[3] > 0), "a rule is found");
+    (answers, out)
+}
+
+/// What two builds took for one call: the middle turn of each, and the turn that a tenth of all were quicker than.
+struct Times {
+    middle: [Duration; 2],
+    quick: [Duration; 2],
+}
+
+/// Has the builds take turns. A turn makes the call as often as takes about `TURN`, and once at least.
+fn in_turn(mut call: impl FnMut(usize)) -> Times {
+    let mut turn = |which: usize, calls: u32| {
+        let begin = Instant::now();
+        (0..calls).for_each(|_| call(which));
+        begin.elapsed()
+    };
+    let once = (0..9).map(|_| turn(0, 1)).min().expect("it was called");
+    let calls = (TURN.as_nanos() / once.as_nanos().max(1)).clamp(1, 1 << 20) as u32;
     let mut times = [const { Vec::new() }; 2];
-    for turn in 0..TURNS {
-        for which in [turn % 2, 1 - turn % 2] {
-            let begin = Instant::now();
-            (0..calls).for_each(|_| call(which));
-            times[which].push(begin.elapsed());
+    for number in 0..TURNS {
+        for which in [number % 2, 1 - number % 2] {
+            times[which].push(turn(which, calls));
         }
     }
-    times.map(|mut times| {
-        times.sort();
-        times[TURNS / 2] / calls as u32
-    })
+    times.iter_mut().for_each(|times| times.sort());
+    let at = |place: usize| times.each_ref().map(|times| times[place] / calls);
+    Times { middle: at(TURNS / 2), quick: at(TURNS / 10) }
 }
 
-fn say(call: &str, list: &str, [before, now]: [Duration; 2]) {
-    let ratio = now.as_secs_f64() / before.as_secs_f64();
-    println!("{call}, {list}: before {before:?}, now {now:?}, ratio {ratio:.3}");
+/// Says how long one of `parts` equal parts of the call took.
+fn say(call: &str, list: &str, times: Times, parts: u32) {
+    let ratio = |[before, now]: [Duration; 2]| now.as_secs_f64() / before.as_secs_f64();
+    let [before, now] = times.middle.map(|time| time / parts);
+    let (middle, quick) = (ratio(times.middle), ratio(times.quick));
+    println!("{call}, {list}: before {before:?}, now {now:?}, ratio {middle:.3}; of the quicker turns {quick:.3}");
 }

@@ -30,11 +30,11 @@ const KINDS: [Kind; 4] = [
     Kind { name: "a firewall: some sources, ports and destinations left open", rules: firewall },
 ];
 
-const EVERYTHING: Rule = [0, 0, 0, 0, 0, 65_535, 0, 65_535, 0, 255];
+const EVERYTHING: Rule = [0, 0, 0, 0, 0, 65_535, 0, 65_535, 0, 255, 0];
 
 fn strips(size: u32, _: &mut dyn FnMut() -> u32) -> Vec<Rule> {
     let bits = size.ilog2();
-    (0..size).map(|strip| [strip << (32 - bits), bits, 0, 0, 0, 65_535, 0, 65_535, 0, 255]).collect()
+    (0..size).map(|strip| [strip << (32 - bits), bits, 0, 0, 0, 65_535, 0, 65_535, 0, 255, 0]).collect()
 }
 
 /// One of some ports that are often named.
@@ -56,15 +56,15 @@ fn drawn(size: u32, draw: &mut dyn FnMut() -> u32, rule: fn(&mut dyn FnMut() -> 
 }
 
 /// Hosts of 10.0.0.0/16, each with one port.
-fn services(size: u32, draw: &mut dyn FnMut() -> u32) -> Vec<Rule> {
+pub fn services(size: u32, draw: &mut dyn FnMut() -> u32) -> Vec<Rule> {
     drawn(size, draw, |draw| {
         let (host, port, protocol) = (0x0A00_0000 + draw() % 65_536, port(draw), [6, 17][draw() as usize % 2]);
-        [0, 0, host, 32, 0, 65_535, port, port, protocol, protocol]
+        [0, 0, host, 32, 0, 65_535, port, port, protocol, protocol, 0]
     })
 }
 
 /// Networks that talk to networks.
-fn zones(size: u32, draw: &mut dyn FnMut() -> u32) -> Vec<Rule> {
+pub fn zones(size: u32, draw: &mut dyn FnMut() -> u32) -> Vec<Rule> {
     drawn(size, draw, zone)
 }
 
@@ -75,7 +75,7 @@ fn zone(draw: &mut dyn FnMut() -> u32) -> Rule {
     };
     let ([source, source_length], [to, to_length]) = (network(draw), network(draw));
     let (port, protocol) = (port(draw), [6, 17][draw() as usize % 2]);
-    [source, source_length, to, to_length, 0, 65_535, port, port, protocol, protocol]
+    [source, source_length, to, to_length, 0, 65_535, port, port, protocol, protocol, 0]
 }
 
 /// As zones, but a source is left open in one of four rules, a destination in one of eight, and the ports in one of

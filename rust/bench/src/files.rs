@@ -1,8 +1,10 @@
-//! Times the writers and the readers of both files, at the largest sizes.
+//! Times the writers and the readers of the files, at the largest sizes.
 
 use std::hint::black_box;
 
-use wickorchard::calls::{self, rules_read, rules_write, tree_read, tree_write, TreeCounts};
+use wickorchard::calls::{self, acl_write, rules_read, rules_write, tree_read, tree_write, ListRead, TreeCounts};
+use wickorchard::limits::{ACTION, RULE_WORDS};
+use wickorchard::Kind;
 
 use crate::{timed, Tree};
 
@@ -13,19 +15,26 @@ fn say(what: &str, bytes: usize, mut call: impl FnMut()) {
     println!("{what} {bytes} bytes {time:?}");
 }
 
-/// Writes the largest list and the largest tree, reads them back, compares the words, and times the four calls.
+/// Writes the largest list and the largest tree, reads them back, compares the words, and times the calls. The list is
+/// written without actions, and with an action of each rule.
 pub fn time(tree: &Tree) {
     let mut text = vec![0_u8; 1 << 20];
-    let bytes = rules_write(&tree.rules, &mut text).expect("the list is good").len();
-    let mut rules = vec![0; tree.rules.len()];
-    assert_eq!(rules_read(&text[..bytes], &mut rules), Ok(512));
-    assert_eq!(rules, tree.rules);
-    say("writing the rules,", bytes, || {
-        let _ = black_box(rules_write(black_box(&tree.rules), &mut text));
-    });
-    say("reading the rules,", bytes, || {
-        let _ = black_box(rules_read(black_box(&text[..bytes]), &mut rules));
-    });
+    let mut acting = tree.rules.clone();
+    acting.chunks_exact_mut(RULE_WORDS).for_each(|rule| rule[ACTION] = 255);
+    for (kind, list) in [(Kind::Rules, &tree.rules), (Kind::Acl, &acting)] {
+        let write = if kind == Kind::Acl { acl_write } else { rules_write };
+        let bytes = write(list, &mut text).expect("the list is good").len();
+        let mut rules = vec![0; list.len()];
+        assert_eq!(rules_read(&text[..bytes], &mut rules), Ok(ListRead { rules: 512, kind }));
+        assert_eq!(&rules, list);
+        let name = if kind == Kind::Acl { "rules and actions," } else { "rules," };
+        say(&format!("writing the {name}"), bytes, || {
+            let _ = black_box(write(black_box(list), &mut text));
+        });
+        say(&format!("reading the {name}"), bytes, || {
+            let _ = black_box(rules_read(black_box(&text[..bytes]), &mut rules));
+        });
+    }
 
     let words = calls::Tree { nodes: &tree.nodes, pool: &tree.pool };
     let bytes = tree_write(512, words, &mut text).expect("the tree is spelt").len();

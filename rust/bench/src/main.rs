@@ -9,12 +9,14 @@
 mod beside;
 mod builds;
 mod files;
+mod loaded;
 mod plain_build;
 mod scans;
 
 use std::hint::black_box;
 use std::time::{Duration, Instant};
 
+use wickorchard::limits::RULE_WORDS;
 use wickorchard::raw::{wick_tree_all, wick_tree_check, wick_tree_first};
 
 const TURNS: usize = 9;
@@ -33,10 +35,10 @@ impl Tree {
     fn largest() -> Tree {
         let mut tree = Tree { rules: Vec::new(), nodes: Vec::new(), pool: Vec::new() };
         for strip in 0..512 {
-            tree.rules.extend([strip << 23, 9, 0, 0, 0, 65_535, 0, 65_535, 0, 255]);
+            tree.rules.extend([strip << 23, 9, 0, 0, 0, 65_535, 0, 65_535, 0, 255, 0]);
         }
         tree.plant(0, 1_024);
-        assert_eq!((tree.rules.len(), tree.nodes.len(), tree.pool.len()), (5_120, 6_141, 4_096));
+        assert_eq!((tree.rules.len(), tree.nodes.len(), tree.pool.len()), (5_632, 6_141, 4_096));
         tree
     }
 
@@ -83,14 +85,17 @@ fn walk<'a>(tree: &'a Tree, header: &[u32; 5]) -> &'a [u32] {
 
 #[inline(never)]
 fn plain_first(tree: &Tree, header: &[u32; 5]) -> Option<u32> {
-    walk(tree, header).iter().copied().find(|&entry| matches(&tree.rules[10 * entry as usize..][..10], header))
+    walk(tree, header)
+        .iter()
+        .copied()
+        .find(|&entry| matches(&tree.rules[RULE_WORDS * entry as usize..][..RULE_WORDS], header))
 }
 
 #[inline(never)]
 fn plain_all(tree: &Tree, header: &[u32; 5], out: &mut [u32]) -> usize {
     let mut count = 0;
     for &entry in walk(tree, header) {
-        if matches(&tree.rules[10 * entry as usize..][..10], header) {
+        if matches(&tree.rules[RULE_WORDS * entry as usize..][..RULE_WORDS], header) {
             out[count] = entry;
             count += 1;
         }

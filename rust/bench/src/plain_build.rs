@@ -1,6 +1,8 @@
 //! A plain Rust compiler of the tree that `wick_build` builds, as a user would write it for speed: the boxes are made
 //! once, a box's rules are parted by the cut's field alone, and the words grow in vectors. It trusts the list.
 
+use wickorchard::limits::RULE_WORDS;
+
 /// The most words of the nodes, and of the pool.
 const LIMITS: [usize; 2] = [6_141, 4_096];
 /// A box that no more rules meet than these is a leaf.
@@ -17,7 +19,7 @@ pub type Words = (Vec<u32>, Vec<u32>);
 
 /// The words of the list's tree; None where it is over the limits.
 pub fn plain_build(rules: &[u32]) -> Option<Words> {
-    let boxes: Vec<Sides> = rules.chunks_exact(10).map(sides_of).collect();
+    let boxes: Vec<Sides> = rules.chunks_exact(RULE_WORDS).map(sides_of).collect();
     let all: Vec<u32> = (0..boxes.len() as u32).collect();
     let mut tree = Growing { boxes: &boxes, nodes: Vec::new(), pool: Vec::new(), values: Default::default() };
     tree.part(&all, ROOT, MOST_CUTS)?;

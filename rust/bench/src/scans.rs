@@ -1,13 +1,13 @@
 //! Times the scans of a list, beside a plain Rust scan of the same words, and the line search, which judges the list
 //! first. Each list has 512 rules.
 //!
-//! The plain scan is what a user would write: ten words at a time, compared field by field. It trusts the list and the
+//! The plain scan is what a user would write: a rule at a time, compared field by field. It trusts the list and the
 //! header.
 
 use std::hint::black_box;
 use std::time::Duration;
 
-use wickorchard::calls::{line_all, line_first, scan_all, scan_first};
+use wickorchard::calls::{line_all, line_first, scan_all, scan_first, Match};
 use wickorchard::limits::{MOST_RULES, RULE_WORDS};
 
 use crate::{matches, timed};
@@ -46,7 +46,7 @@ fn kinds(draw: &mut impl FnMut() -> u32) -> Vec<Kind> {
     let rules = |rule: &mut dyn FnMut(u32) -> [u32; RULE_WORDS]| (0..MOST_RULES as u32).flat_map(rule).collect();
     let headers = |header: &mut dyn FnMut() -> Header| (0..HEADERS).map(|_| header()).collect();
 
-    let strips: Vec<u32> = rules(&mut |strip| [strip << 23, 9, 0, 0, 0, 65_535, 0, 65_535, 0, 255]);
+    let strips: Vec<u32> = rules(&mut |strip| [strip << 23, 9, 0, 0, 0, 65_535, 0, 65_535, 0, 255, 0]);
     let drawn: Vec<u32> = rules(&mut |_| drawn_rule(draw));
     let inside = headers(&mut || {
         let at = RULE_WORDS * (draw() as usize % MOST_RULES);
@@ -57,12 +57,12 @@ fn kinds(draw: &mut impl FnMut() -> u32) -> Vec<Kind> {
         Kind { name: "drawn prefixes and ranges", rules: drawn, headers: inside },
         Kind {
             name: "other protocols, so no rule matches and all five fields are compared",
-            rules: rules(&mut |rule| [0, 0, 0, 0, 0, 65_535, 0, 65_535, 1 + rule % 128, 255 - rule / 128]),
+            rules: rules(&mut |rule| [0, 0, 0, 0, 0, 65_535, 0, 65_535, 1 + rule % 128, 255 - rule / 128, 0]),
             headers: headers(&mut || [draw(), draw(), draw() & 65_535, draw() & 65_535, 0]),
         },
         Kind {
             name: "every rule matches",
-            rules: rules(&mut |rule| [0, 0, 0, 0, rule, 65_535, 0, 65_535, 0, 255]),
+            rules: rules(&mut |rule| [0, 0, 0, 0, rule, 65_535, 0, 65_535, 0, 255, 0]),
             headers: headers(&mut || {
                 [draw(), draw(), MOST_RULES as u32 + draw() % 65_000, draw() & 65_535, draw() & 255]
             }),
@@ -70,14 +70,14 @@ fn kinds(draw: &mut impl FnMut() -> u32) -> Vec<Kind> {
     ]
 }
 
-/// A good rule: two prefixes of any length, and three ranges.
+/// A good rule: two prefixes of any length, three ranges, and action 0.
 pub fn drawn_rule(draw: &mut impl FnMut() -> u32) -> [u32; RULE_WORDS] {
     let mut rule = [0; RULE_WORDS];
     for prefix in rule[..4].chunks_exact_mut(2) {
         let length = draw() % 33;
         prefix.copy_from_slice(&[((u64::from(draw()) >> (32 - length)) << (32 - length)) as u32, length]);
     }
-    for (range, largest) in rule[4..].chunks_exact_mut(2).zip([65_535, 65_535, 255]) {
+    for (range, largest) in rule[4..10].chunks_exact_mut(2).zip([65_535, 65_535, 255]) {
         range.copy_from_slice(&[draw() % (largest + 1), draw() % (largest + 1)]);
         range.sort_unstable();
     }
@@ -85,7 +85,7 @@ pub fn drawn_rule(draw: &mut impl FnMut() -> u32) -> [u32; RULE_WORDS] {
 }
 
 /// A header that the good rule matches.
-fn drawn_inside(rule: &[u32], draw: &mut impl FnMut() -> u32) -> Header {
+pub fn drawn_inside(rule: &[u32], draw: &mut impl FnMut() -> u32) -> Header {
     std::array::from_fn(|field| {
         let (low, second) = (rule[2 * field], rule[2 * field + 1]);
         let more = if field < 2 { (1_u64 << (32 - second)) - 1 } else { u64::from(second - low) };
@@ -98,7 +98,7 @@ pub fn time(draw: &mut impl FnMut() -> u32) {
     for Kind { name, rules, headers } in kinds(draw) {
         let [mut out, mut plain] = [[0; MOST_RULES]; 2];
         for header in &headers {
-            let first = plain_first(&rules, header);
+            let first = plain_first(&rules, header).map(|rule| Match { rule, action: 0 });
             assert_eq!((scan_first(&rules, header), line_first(&rules, header)), (Ok(first), Ok(first)));
             let all = plain_all(&rules, header, &mut plain);
             assert_eq!(scan_all(&rules, header, &mut out), Ok(all));

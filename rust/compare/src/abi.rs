@@ -4,7 +4,7 @@ use oracle::Answer;
 
 use crate::arena::Lent;
 
-/// The words of an answer: number, place, extra, a, b, c and two that are 0. A call writes all of them.
+/// The words of an answer: number, place, extra, a, b, c, d and one that is 0. A call writes all of them.
 pub const ANSWER_WORDS: usize = 8;
 
 /// The most slices that a request names, besides the answer.
@@ -37,6 +37,7 @@ pub enum Call {
     BuildOn = 15,
     PartWrite = 16,
     PartRead = 17,
+    AclWrite = 18,
 }
 
 impl Call {
@@ -60,6 +61,7 @@ impl Call {
             Call::BuildOn => "wick_build_on",
             Call::PartWrite => "wick_part_write",
             Call::PartRead => "wick_part_read",
+            Call::AclWrite => "wick_acl_write",
         }
     }
 
@@ -96,6 +98,6 @@ impl Request<'_> {
 
 /// The words that a call must write where this is its answer.
 pub fn answer_words(answer: &Answer) -> [u64; ANSWER_WORDS] {
-    let Answer { number, place, extra, a, b, c } = *answer;
-    [number, place, extra, a, b, c, 0, 0]
+    let Answer { number, place, extra, a, b, c, d } = *answer;
+    [number, place, extra, a, b, c, d, 0]
 }

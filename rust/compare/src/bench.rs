@@ -6,7 +6,7 @@ mod stops;
 use std::io::{self, Write};
 use std::time::Instant;
 
-use oracle::rules::MOST_RULES;
+use oracle::rules::{MOST_RULES, RULE_WORDS};
 use oracle::Answer;
 
 use crate::abi::{answer_words, Call, Request};
@@ -116,15 +116,15 @@ impl Bench {
         self.compare(inputs, &[lent_rules, lent_header], answer)
     }
 
-    /// All calls on a list. The writer has ample room, and all-match has room for a number of every rule, and one over;
-    /// the answer of the line search for all is given back.
+    /// All calls on a list. The writers have ample room, and all-match has room for a number of every rule, and one
+    /// over; the answer of the line search for all is given back.
     pub fn all_calls(&mut self, case: &str, rules: &[u32], header: &[u32]) -> Agreed {
         self.rule_check(case, rules)?;
         self.write_rules(case, rules)?;
         self.scan_first(case, rules, header)?;
-        self.scan_all(case, rules, header, rules.len() / 10 + 1)?;
+        self.scan_all(case, rules, header, rules.len() / RULE_WORDS + 1)?;
         self.line_first(case, rules, header)?;
-        self.line_all(case, rules, header, rules.len() / 10 + 1)
+        self.line_all(case, rules, header, rules.len() / RULE_WORDS + 1)
     }
 
     pub fn tree_check(&mut self, case: &str, policy: &Policy) -> Agreed {

@@ -1,7 +1,7 @@
 //! Every kind of damage that makes a good rule not good, and a good header refused.
 
 use crate::headers::{Header, LARGEST};
-use crate::lists::Rule;
+use crate::lists::{Rule, ACTION};
 
 /// A good rule with one kind of damage, and what the damage is.
 pub struct Damaged {
@@ -19,6 +19,7 @@ pub fn damaged_rules(rule: &Rule) -> Vec<Damaged> {
     for field in 2..5 {
         wrong_ranges(rule, field, &mut all);
     }
+    large_actions(rule, &mut all);
     largest_words(rule, &mut all);
     all
 }
@@ -68,9 +69,17 @@ fn wrong_ranges(rule: &Rule, field: usize, all: &mut Vec<Damaged>) {
     }
 }
 
+/// Actions over 255. Some of them are right again modulo 256 or 65,536.
+fn large_actions(rule: &Rule, all: &mut Vec<Damaged>) {
+    let action = rule[ACTION];
+    for wrong in [256, 257, 511, 256 + action, 65_536 + action, 1 << 31] {
+        all.push(put(rule, ACTION, wrong, format!("action {wrong}")));
+    }
+}
+
 /// The largest 32-bit word in place of each word. As an address of length 32 it is good, and so left out.
 fn largest_words(rule: &Rule, all: &mut Vec<Damaged>) {
-    for word in 0..10 {
+    for word in 0..rule.len() {
         let is_good = (word == 0 || word == 2) && rule[word + 1] == 32;
         if !is_good {
             all.push(put(rule, word, u32::MAX, format!("word {word}: {}", u32::MAX)));

@@ -1,18 +1,26 @@
 //! Good lists of rules: the worked policy, and lists drawn so that few, many or neighbouring rules match. None has
-//! twins.
+//! twins. Half of the drawn lists have actions.
+
+use oracle::rules::{FIELD_WORDS, RULE_WORDS};
 
 use crate::draws::Draws;
 use crate::headers::{self, Header, LARGEST};
 
-/// The ten words of a rule.
-pub type Rule = [u32; 10];
+/// The words of a rule, of which the last is its action.
+pub type Rule = [u32; RULE_WORDS];
 
-/// The rule that matches every header.
-pub const EVERYTHING: Rule = [0, 0, 0, 0, 0, 65_535, 0, 65_535, 0, 255];
+/// The word of a rule that is its action.
+pub const ACTION: usize = 10;
+
+/// The rule that matches every header, with action 0.
+pub const EVERYTHING: Rule = [0, 0, 0, 0, 0, 65_535, 0, 65_535, 0, 255, 0];
 
 /// The worked policy's rules 0, 1 and 2.
-pub const WORKED_POLICY: [Rule; 3] =
-    [[0x0A00_0000, 8, 0, 0, 0, 65_535, 80, 80, 6, 6], [0x0A01_0000, 16, 0, 0, 0, 65_535, 0, 1_023, 6, 6], EVERYTHING];
+pub const WORKED_POLICY: [Rule; 3] = [
+    [0x0A00_0000, 8, 0, 0, 0, 65_535, 80, 80, 6, 6, 0],
+    [0x0A01_0000, 16, 0, 0, 0, 65_535, 0, 1_023, 6, 6, 0],
+    EVERYTHING,
+];
 
 /// How the rules of a drawn list stand to each other.
 #[derive(Clone, Copy, Debug)]
@@ -42,15 +50,26 @@ impl List {
 }
 
 /// So many rules, up to 1,024, that differ in the ends of the source port: rule 0 is everything, and all of them match
-/// every header with a source port from 31 to 65,504.
+/// every header with a source port from 31 to 65,504. Every action is there.
 pub fn wide_rules(count: usize) -> Vec<Rule> {
-    let rule = |number: u32| [0, 0, 0, 0, number % 32, 65_535 - number / 32, 0, 65_535, 0, 255];
+    let rule = |number: u32| [0, 0, 0, 0, number % 32, 65_535 - number / 32, 0, 65_535, 0, 255, number % 256];
     (0..count as u32).map(rule).collect()
+}
+
+/// Is a rule like this one among them, whatever their actions?
+pub fn has(rules: &[Rule], rule: &Rule) -> bool {
+    rules.iter().any(|other| other[..FIELD_WORDS] == rule[..FIELD_WORDS])
+}
+
+/// The rule with this action.
+pub fn acting(mut rule: Rule, action: u32) -> Rule {
+    rule[ACTION] = action;
+    rule
 }
 
 /// Makes the rule of this place everything. Where another rule is that already, the two change places.
 pub fn put_everything(rules: &mut [Rule], place: usize) {
-    match rules.iter().position(|rule| *rule == EVERYTHING) {
+    match rules.iter().position(|rule| rule[..FIELD_WORDS] == EVERYTHING[..FIELD_WORDS]) {
         Some(other) => rules.swap(place, other),
         None => rules[place] = EVERYTHING,
     }
@@ -63,8 +82,18 @@ pub fn good_list(draws: &mut Draws, count: usize, manner: Manner) -> List {
         _ => 1 + draws.below(4),
     };
     let points: Vec<Header> = (0..several).map(|_| headers::anywhere(draws)).collect();
-    let rules = different(count, || drawn_rule(draws, &points, manner));
+    let mut rules = different(count, || drawn_rule(draws, &points, manner));
+    draw_actions(&mut rules, draws);
     List { rules, points }
+}
+
+/// Gives the rules actions, or all of them 0, once in two.
+pub fn draw_actions(rules: &mut [Rule], draws: &mut Draws) {
+    let has_actions = draws.once_in(2);
+    for rule in rules {
+        let drawn = draws.between(0, 255);
+        rule[ACTION] = if has_actions { draws.pick(&[0, 1, 254, 255, drawn, drawn]) } else { 0 };
+    }
 }
 
 /// So many rules; one that is there already is drawn again.
@@ -72,7 +101,7 @@ pub fn different(count: usize, mut draw: impl FnMut() -> Rule) -> Vec<Rule> {
     let mut rules = Vec::new();
     while rules.len() < count {
         let rule = draw();
-        if !rules.contains(&rule) {
+        if !has(&rules, &rule) {
             rules.push(rule);
         }
     }

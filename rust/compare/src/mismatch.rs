@@ -2,6 +2,8 @@
 
 use std::fmt::{self, Display, Formatter};
 
+use oracle::rules::RULE_WORDS;
+
 use crate::abi::{Call, ANSWER_WORDS};
 use crate::arena::Difference;
 use crate::lender::Silence;
@@ -105,7 +107,7 @@ impl Mismatch<'_> {
             Deed::Left { answer, .. } => names(answer, number) || names(&self.oracle, number),
             Deed::Stayed(_) => names(&self.oracle, number),
         };
-        for (number, rule) in (0..).zip(rules.chunks(10)) {
+        for (number, rule) in (0..).zip(rules.chunks(RULE_WORDS)) {
             if number < SHOWN_RULES || named(number) {
                 writeln!(to, "    rule {number}: {rule:?}")?;
             }
@@ -129,7 +131,7 @@ struct AnswerWords<'a>(&'a [u64; ANSWER_WORDS]);
 
 impl Display for AnswerWords<'_> {
     fn fmt(&self, to: &mut Formatter) -> fmt::Result {
-        let [number, place, extra, a, b, c, rest @ ..] = self.0;
-        write!(to, "number {number}, place {place}, extra {extra}, a {a}, b {b}, c {c}, rest {rest:?}")
+        let [number, place, extra, a, b, c, d, rest] = self.0;
+        write!(to, "number {number}, place {place}, extra {extra}, a {a}, b {b}, c {c}, d {d}, rest {rest}")
     }
 }

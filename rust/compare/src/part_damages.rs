@@ -1,5 +1,7 @@
 //! Damage to a part. Some damage leaves it right; the oracle tells.
 
+use oracle::rules::RULE_WORDS;
+
 use crate::draws::Draws;
 use crate::trees::Policy;
 
@@ -87,7 +89,7 @@ pub fn change(part: &mut Policy, draws: &mut Draws) {
         }
         7 if !part.pool.is_empty() => {
             let word = draws.below(part.pool.len());
-            part.pool[word] = draws.below(part.rules.len() / 10 + 1) as u32;
+            part.pool[word] = draws.below(part.rules.len() / RULE_WORDS + 1) as u32;
         }
         8 if !part.pool.is_empty() => {
             let (one, two) = (draws.below(part.pool.len()), draws.below(part.pool.len()));
@@ -97,9 +99,9 @@ pub fn change(part: &mut Policy, draws: &mut Draws) {
         10 => part.pool.truncate(part.pool.len().saturating_sub(1)),
         _ if !part.rules.is_empty() => {
             // Another box for one of the rules.
-            let rule = draws.below(part.rules.len() / 10);
-            part.rules[10 * rule + 6] = 0;
-            part.rules[10 * rule + 7] = draws.between(0, 65_535);
+            let rule = draws.below(part.rules.len() / RULE_WORDS);
+            part.rules[RULE_WORDS * rule + 6] = 0;
+            part.rules[RULE_WORDS * rule + 7] = draws.between(0, 65_535);
         }
         _ => part.nodes[3 * node + 1] ^= 1 << draws.below(32),
     }

@@ -1,5 +1,5 @@
 //! Good lists for the compiler: their rules share few ends, so that fields tie, values repeat, and many rules meet a
-//! box. None has twins.
+//! box. None has twins, and half of the drawn ones have actions.
 
 use crate::draws::Draws;
 use crate::headers::LARGEST;
@@ -29,7 +29,7 @@ pub fn variant(rule: Rule, field: usize, number: usize) -> Rule {
 /// So many rules that hold one header, up to 512. Each but the first is an earlier one that reaches one step further on
 /// one side, or has an address that is one bit shorter.
 pub fn around_a_header(count: usize) -> Vec<Rule> {
-    let mut rules = vec![[0xAAAA_AAAA, 32, 0x5555_5555, 32, 1_000, 1_000, 1_000, 1_000, 100, 100]];
+    let mut rules = vec![[0xAAAA_AAAA, 32, 0x5555_5555, 32, 1_000, 1_000, 1_000, 1_000, 100, 100, 0]];
     let mut inner = 0;
     while rules.len() < count {
         for word in [1, 3, 4, 5, 6, 7, 8, 9] {
@@ -39,7 +39,7 @@ pub fn around_a_header(count: usize) -> Vec<Rule> {
                 4 | 6 | 8 => wider[word] -= 1,
                 _ => wider[word] += 1,
             }
-            if !rules.contains(&wider) {
+            if !lists::has(&rules, &wider) {
                 rules.push(wider);
             }
         }
@@ -76,13 +76,14 @@ pub fn list(draws: &mut Draws, size: usize) -> Vec<Rule> {
                 _ => put(rule, number, pair_of(draws, number, &field.values)),
             })
         };
-        while rules.contains(&rule) {
+        while lists::has(&rules, &rule) {
             let field = draws.below(5);
             fields[field].values.push(draws.between(0, LARGEST[field]));
             rule = put(rule, field, pair_of(draws, field, &fields[field].values));
         }
         rules.push(rule);
     }
+    lists::draw_actions(&mut rules, draws);
     rules
 }
 

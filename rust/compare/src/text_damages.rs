@@ -15,9 +15,9 @@ pub struct DamagedText {
 const BYTES: [u8; 19] = *b"\t\n\r\0 019/.:+-_,ae\x80\xFF";
 
 /// The fixed words of the files and of the program, and others that look like them.
-const WORDS: [&str; 17] = [
-    "rules", "rule", "tree", "part", "cut", "leaf", "end", "head", "hit", "", "Rule", "CUT", "leaves", "en", "ends",
-    "rul", "parts",
+const WORDS: [&str; 20] = [
+    "rules", "acl", "rule", "tree", "part", "cut", "leaf", "end", "head", "hit", "", "Rule", "CUT", "leaves", "en",
+    "ends", "rul", "parts", "ac", "aclx",
 ];
 
 /// Numbers at which a test turns over: fields, octets, lengths, counts, ports, and words of 32 bits.

@@ -1,15 +1,17 @@
 //! Good texts of all files, and the words that they are read as.
 
-use oracle::rule_file::{rule_line, rules_text};
+use oracle::rule_file::{list_text, rule_line, Kind};
+use oracle::rules::RULE_WORDS;
 use oracle::tree_file::{part_text, tree_text};
 
 use crate::draws::Draws;
-use crate::lists::{self, Rule, MANNERS};
+use crate::lists::{self, Rule, ACTION, MANNERS};
 use crate::trees::{self, Policy};
 
 /// Which of the files a text is read as.
 #[derive(Clone, Copy, Debug, PartialEq, Eq)]
 pub enum File {
+    /// Of either kind: one reader takes both.
     Rules,
     Tree,
     /// Of a build that was stopped.
@@ -26,9 +28,14 @@ pub struct Text {
 }
 
 impl Text {
-    /// The text of this good list.
+    /// The text of this good list: without actions where all are 0.
     pub fn of_rules(words: &[u32]) -> Text {
-        let text = rules_text(words).expect("the list is good");
+        Text::of_list(kind_of(words), words)
+    }
+
+    /// The text of this kind of this good list, all of whose actions the kind can hold.
+    pub fn of_list(kind: Kind, words: &[u32]) -> Text {
+        let text = list_text(kind, words).expect("the list is good");
         Text { file: File::Rules, bytes: text.into(), needed: [words.len(), 0] }
     }
 
@@ -55,11 +62,27 @@ impl Text {
     }
 }
 
-/// A rules file of these rules, good or not and of any number, whose first line has this count.
+/// The kind of file that holds this list, good or not, with no actions on its lines where all are 0.
+pub fn kind_of(words: &[u32]) -> Kind {
+    let has_actions = words.chunks_exact(RULE_WORDS).any(|rule| rule[ACTION] != 0);
+    if has_actions {
+        Kind::Acl
+    } else {
+        Kind::Rules
+    }
+}
+
+/// A file of these rules, good or not and of any number, whose first line has this count. It is without actions where
+/// all are 0.
 pub fn rules_file(first: usize, rules: &[Rule]) -> Text {
-    let lines: String = (0..).zip(rules).map(|(number, rule)| rule_line(number, rule) + "\n").collect();
-    let bytes = format!("rules\t{first}\n{lines}end\t{}\n", rules.len() + 1).into_bytes();
-    Text { file: File::Rules, bytes, needed: [10 * rules.len(), 0] }
+    list_file(kind_of(&rules.concat()), first, rules)
+}
+
+/// The same, of this kind.
+pub fn list_file(kind: Kind, first: usize, rules: &[Rule]) -> Text {
+    let lines: String = (0..).zip(rules).map(|(number, rule)| rule_line(kind, number, rule) + "\n").collect();
+    let bytes = format!("{}\t{first}\n{lines}end\t{}\n", kind.word(), rules.len() + 1).into_bytes();
+    Text { file: File::Rules, bytes, needed: [RULE_WORDS * rules.len(), 0] }
 }
 
 /// The texts of the worked policy.

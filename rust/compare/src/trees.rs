@@ -6,7 +6,7 @@ use oracle::build::{compile, LARGEST_ROOM};
 use oracle::builder::{self, Limits};
 use oracle::nodes::{MOST_ENTRIES, MOST_NODES};
 use oracle::parts::{Part, Places, TreeWords};
-use oracle::rules::{self, judge_rules, rule_of};
+use oracle::rules::{self, judge_rules, rule_of, RULE_WORDS};
 
 use crate::draws::Draws;
 use crate::headers::{self, Header, LARGEST};
@@ -28,7 +28,7 @@ impl Policy {
 
     /// How many rules there are.
     pub fn rule_count(&self) -> u64 {
-        (self.rules.len() / 10) as u64
+        (self.rules.len() / RULE_WORDS) as u64
     }
 
     /// How many nodes there are.

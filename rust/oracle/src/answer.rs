@@ -1,6 +1,6 @@
 //! What a call answers: the number, place and extra of a refusal, or the values of a completed call.
 
-/// The answer of any call. A completed call has number, place and extra 0; a refused one has `a`, `b` and `c` 0.
+/// The answer of any call. A completed call has number, place and extra 0; a refused one has `a` to `d` 0.
 /// Which values a completed call gives is said at the call; a value that is not named there is 0.
 #[derive(Clone, Copy, Debug, PartialEq, Eq)]
 pub struct Answer {
@@ -10,23 +10,30 @@ pub struct Answer {
     pub a: u64,
     pub b: u64,
     pub c: u64,
+    pub d: u64,
 }
 
 impl Answer {
+    /// A completed call's answer, in which `d` is 0.
     pub fn completed(a: u64, b: u64, c: u64) -> Answer {
-        Answer { number: 0, place: 0, extra: 0, a, b, c }
+        Answer { number: 0, place: 0, extra: 0, a, b, c, d: 0 }
+    }
+
+    /// The same with `d`, the action of the rule that a first-match found.
+    pub fn with_action(self, action: u32) -> Answer {
+        Answer { d: u64::from(action), ..self }
     }
 
     pub fn refused(refusal: Refusal) -> Answer {
         let (number, place, extra) = refusal.number_place_extra();
-        Answer { number, place, extra, a: 0, b: 0, c: 0 }
+        Answer { number, place, extra, a: 0, b: 0, c: 0, d: 0 }
     }
 }
 
 /// What is wrong, as in the scope's table of refusal numbers.
 #[derive(Clone, Copy, Debug, PartialEq, Eq)]
 pub enum Refusal {
-    /// The rule words are not a multiple of ten, or over 5,120; or a tree writer is told of more than 512 rules.
+    /// The rule words are not a multiple of eleven, or over 5,632; or a tree writer is told of more than 512 rules.
     RuleWords,
     /// A rule is not good; this is the lowest such rule.
     RuleNotGood { rule: usize },
@@ -50,7 +57,8 @@ pub enum Refusal {
     LineWrong { line: usize },
     /// The text stops before its end line, after so many whole lines.
     TextStops { lines: usize },
-    /// A rule has the ten words of an earlier one. This is the lowest such rule, so there is just one such earlier one.
+    /// A rule has the words of an earlier one, whatever their actions. This is the lowest such rule, so there is just
+    /// one such earlier one.
     RuleHasTwin { rule: usize, earlier: usize },
     /// The program's alone: a file is not opened, is not read to its end, or is over 65,536 bytes.
     FileNotRead,

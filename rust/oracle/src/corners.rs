@@ -6,7 +6,7 @@
 use crate::boxes::{box_of, root_box, LARGEST};
 use crate::line::line_all;
 use crate::nodes::{entries_of, judge_tree_words, node_at, Node};
-use crate::rules::judge_rules;
+use crate::rules::{judge_rules, RULE_WORDS};
 use crate::tree_check::MOST_CUTS;
 use crate::tree_search::tree_all;
 
@@ -85,7 +85,7 @@ fn header_of(corners: &Corners, number: u64) -> [u32; 5] {
 
 /// Does the tree search give the header the list that the line search gives it?
 fn gets_its_list(rules: &[u32], nodes: &[u32], pool: &[u32], header: &[u32; 5]) -> bool {
-    let mut by_line = vec![u32::MAX; rules.len() / 10];
+    let mut by_line = vec![u32::MAX; rules.len() / RULE_WORDS];
     let mut by_tree = vec![u32::MAX; by_line.len()];
     let line = line_all(rules, header, &mut by_line);
     let tree = tree_all(rules, nodes, pool, header, &mut by_tree);

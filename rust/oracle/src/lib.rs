@@ -6,14 +6,15 @@
 //!
 //! - [`rule_check`]: is every rule of the list good, and none the same as an earlier one;
 //! - [`line_all`]: the numbers of all rules that match a header;
-//! - [`line_first`]: the lowest number of them;
+//! - [`line_first`]: the lowest number of them, and that rule's action;
 //! - [`scan_all`] and [`scan_first`]: the same, and no list is judged;
 //! - [`tree_all`]: the numbers in a leaf that match a header, by a walk through a tree;
-//! - [`tree_first`]: the first number of them;
+//! - [`tree_first`]: the first number of them, and that rule's action;
 //! - [`tree_check`]: is the tree well formed, and does each leaf list every rule that can match there;
 //! - [`build()`]: the one tree that is compiled from a list;
 //! - [`build_some`] and [`build_on`]: the same, stopped after some nodes, and going on from there;
-//! - [`rules_write`] and [`rules_read`]: a list as a text file, and back;
+//! - [`rules_write`], [`acl_write`] and [`rules_read`]: a list as a text file, without its actions and with them, and
+//!   back;
 //! - [`tree_write`] and [`tree_read`]: a tree as a text file, and back;
 //! - [`part_write`] and [`part_read`]: a build that was stopped as a text file, and back.
 //!
@@ -50,7 +51,7 @@ pub use answer::{Answer, Refusal};
 pub use build::build;
 pub use line::{line_all, line_first};
 pub use program::program;
-pub use rule_file::{rules_read, rules_write};
+pub use rule_file::{acl_write, rules_read, rules_write};
 pub use rules::rule_check;
 pub use scan::{scan_all, scan_first};
 pub use stops::{build_on, build_some};

@@ -1,4 +1,4 @@
-//! When a rule matches a header. This is defined for any ten words, good or not.
+//! When a rule matches a header. This is defined for any words, good or not. The action takes no part in it.
 
 use crate::header::Header;
 use crate::rules::{Prefix, Range, Rule};

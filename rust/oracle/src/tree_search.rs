@@ -34,8 +34,8 @@ pub fn tree_all(rules: &[u32], nodes: &[u32], pool: &[u32], header: &[u32], out:
 }
 
 /// Finds the first matching entry of the reached leaf: 3, 6, then 7. A bad entry past the match is still 7. A completed
-/// search gives `a`, the rule's number + 1, or 0 where none matches, `b`, the nodes visited, and `c`, the entries
-/// compared up to and including the match.
+/// search gives `a`, the rule's number + 1, or 0 where none matches, `b`, the nodes visited, `c`, the entries compared
+/// up to and including the match, and `d`, the rule's action, whatever word that is, or 0 where none matches.
 pub fn tree_first(rules: &[u32], nodes: &[u32], pool: &[u32], header: &[u32]) -> Answer {
     let (header, reached) = match tree_search(rules, nodes, pool, header) {
         Err(refusal) => return Answer::refused(refusal),
@@ -45,7 +45,7 @@ pub fn tree_first(rules: &[u32], nodes: &[u32], pool: &[u32], header: &[u32]) ->
     for (entry, rule) in &reached.entries {
         compared += 1;
         if matches(rule, &header) {
-            return Answer::completed(u64::from(*entry) + 1, reached.visited, compared);
+            return Answer::completed(u64::from(*entry) + 1, reached.visited, compared).with_action(rule.action);
         }
     }
     Answer::completed(0, reached.visited, compared)
@@ -58,9 +58,9 @@ fn tree_search(rules: &[u32], nodes: &[u32], pool: &[u32], header: &[u32]) -> Re
     let wrong = Refusal::LeafWrong { node: leaf };
     let mut entries = Vec::new();
     for &entry in entries_of(pool, start, count).ok_or(wrong)? {
-        // A last rule of fewer than ten words is not wholly lent.
-        let ten = rules.chunks_exact(RULE_WORDS).nth(entry as usize).ok_or(wrong)?;
-        entries.push((entry, rule_of(ten)));
+        // A last rule of fewer than eleven words is not wholly lent.
+        let words = rules.chunks_exact(RULE_WORDS).nth(entry as usize).ok_or(wrong)?;
+        entries.push((entry, rule_of(words)));
     }
     Ok((header, Reached { visited, entries }))
 }

@@ -6,12 +6,12 @@ use oracle::build::{compile, LARGEST_ROOM};
 use oracle::{build, tree_check, Answer};
 use worked::{policy, AS_FOUND};
 
-type Rule = [u32; 10];
+type Rule = [u32; 11];
 
-const EVERYTHING: Rule = [0, 0, 0, 0, 0, 65_535, 0, 65_535, 0, 255];
+const EVERYTHING: Rule = [0, 0, 0, 0, 0, 65_535, 0, 65_535, 0, 255, 0];
 
 fn refused(number: u64, place: u64, extra: u64) -> Answer {
-    Answer { number, place, extra, a: 0, b: 0, c: 0 }
+    Answer { number, place, extra, a: 0, b: 0, c: 0, d: 0 }
 }
 
 /// Everything, but for these two words of this field.
@@ -198,7 +198,7 @@ fn a_prefix_counts_as_its_range() {
 fn two_protocols() -> Vec<Rule> {
     let rule = |number: u32| {
         let (port, protocol) = (10 * (number % 9 + 1), 1 + number / 9);
-        [0, 0, 0, 0, 0, 65_535, port, port, protocol, protocol]
+        [0, 0, 0, 0, 0, 65_535, port, port, protocol, protocol, 0]
     };
     (0..17).map(rule).collect()
 }
@@ -255,7 +255,7 @@ fn strips_and_a_point(strips: u32) -> Vec<u32> {
     let mut rules: Vec<Rule> = (0..strips).map(|strip| with(0, [(2 * strip + 1) << 20, 12])).collect();
     rules.extend((0..9).map(|number| {
         let high = |bit: u32| 7 + (number >> bit & 1);
-        [0, 0, 76, 32 - (number >> 3 & 1), 7, high(0), 7, high(1), 7, high(2)]
+        [0, 0, 76, 32 - (number >> 3 & 1), 7, high(0), 7, high(1), 7, high(2), 0]
     }));
     rules.concat()
 }

@@ -23,7 +23,7 @@ fn small_list(drawn: &mut Drawn) -> Vec<u32> {
         let mut ends = [drawn.below(8), drawn.below(8), drawn.below(256), drawn.below(256)].map(|end| end as u32);
         ends[..2].sort_unstable();
         ends[2..].sort_unstable();
-        words.extend([0, 0, 0, 0, 0, 65_535, ends[0], ends[1], ends[2], ends[3]]);
+        words.extend([0, 0, 0, 0, 0, 65_535, ends[0], ends[1], ends[2], ends[3], 0]);
     }
     words
 }
@@ -94,7 +94,7 @@ fn damaged_trees_get_the_same_verdict() {
 #[test]
 fn a_build_over_its_limits_gives_none() {
     let words: Vec<u32> =
-        (0..MOST_RULES as u32).flat_map(|rule| [rule << 23, 9, 0, 0, 0, 65_535, 0, 65_535, 0, 255]).collect();
+        (0..MOST_RULES as u32).flat_map(|rule| [rule << 23, 9, 0, 0, 0, 65_535, 0, 65_535, 0, 255, 0]).collect();
     let list = judge_rules(&words).expect("the list is good");
     let limits = Limits { leaf: 1, cuts: 63, nodes: 1_023, entries: 512 };
     assert!(build(&list, limits).is_some());

@@ -2,11 +2,11 @@
 
 use oracle::{line_all, line_first, rule_check, Answer};
 
-const EVERYTHING: [u32; 10] = [0, 0, 0, 0, 0, 65_535, 0, 65_535, 0, 255];
+const EVERYTHING: [u32; 11] = [0, 0, 0, 0, 0, 65_535, 0, 65_535, 0, 255, 0];
 const HEADER: [u32; 5] = [0x0A01_0203, 0xC0A8_0001, 40_000, 80, 6];
 
 /// The rule that matches everything, with one word put in another's place.
-fn with(word: usize, value: u32) -> [u32; 10] {
+fn with(word: usize, value: u32) -> [u32; 11] {
     let mut rule = EVERYTHING;
     rule[word] = value;
     rule
@@ -14,14 +14,14 @@ fn with(word: usize, value: u32) -> [u32; 10] {
 
 /// So many rules. They differ in the ends of the source port, and all match `HEADER`.
 fn many(rules: u32) -> Vec<u32> {
-    (0..rules).flat_map(|number| [0, 0, 0, 0, number, 65_535 - number, 0, 65_535, 0, 255]).collect()
+    (0..rules).flat_map(|number| [0, 0, 0, 0, number, 65_535 - number, 0, 65_535, 0, 255, 0]).collect()
 }
 
 fn refused(number: u64, place: u64) -> Answer {
-    Answer { number, place, extra: 0, a: 0, b: 0, c: 0 }
+    Answer { number, place, extra: 0, a: 0, b: 0, c: 0, d: 0 }
 }
 
-fn matches(rule: &[u32; 10], header: &[u32; 5]) -> bool {
+fn matches(rule: &[u32; 11], header: &[u32; 5]) -> bool {
     let answer = line_first(rule, header);
     assert_eq!(answer.number, 0);
     answer.a > 0
@@ -122,10 +122,10 @@ fn no_rules_and_no_room_is_a_completed_search() {
 #[test]
 fn the_lowest_bad_rule_is_named_even_after_the_first_match() {
     let mut list = many(5);
-    list[4 * 10 + 1] = 33;
+    list[4 * 11 + 1] = 33;
     assert_eq!(rule_check(&list), refused(2, 4));
     assert_eq!(line_first(&list, &HEADER), refused(2, 4));
-    list[2 * 10 + 9] = 256;
+    list[2 * 11 + 9] = 256;
     assert_eq!(rule_check(&list), refused(2, 2));
 }
 

@@ -5,7 +5,7 @@ mod worked;
 
 use oracle::program;
 use oracle::program::Found;
-use oracle::rule_file::rules_text;
+use oracle::rule_file::{list_text, Kind};
 use oracle::tree_file::tree_text;
 use texts::{changed, cut_everywhere};
 use worked::{policy, NODES, POOL};
@@ -43,7 +43,7 @@ fn head_with(old: &str, new: &str) -> String {
 
 #[test]
 fn the_example_is_the_worked_policy() {
-    assert_eq!(RULES, rules_text(&policy()).unwrap());
+    assert_eq!(RULES, list_text(Kind::Rules, &policy()).unwrap());
     assert_eq!(TREE, tree_text(3, &NODES.concat(), &POOL).unwrap());
     assert_eq!(ANSWERS, answers(HEADS));
 }
@@ -83,6 +83,20 @@ fn a_refused_rules_file_ends_the_program() {
     for (cut, lines) in cut_everywhere(RULES) {
         assert_eq!(written(text(cut), text(TREE), HEADS), refused(10, lines, 0));
     }
+}
+
+#[test]
+fn a_list_with_actions_is_answered_as_one_without() {
+    let mut words = policy();
+    (words[10], words[21], words[32]) = (1, 255, 0);
+    let acl = list_text(Kind::Acl, &words).unwrap();
+    assert_eq!(written(text(&acl), text(TREE), HEADS), ANSWERS);
+    for (cut, lines) in cut_everywhere(&acl) {
+        assert_eq!(written(text(cut), text(TREE), HEADS), refused(10, lines, 0));
+    }
+    assert_eq!(written(text(&changed(&acl, "\t6\t6\t255", "\t6\t6\t256")), text(TREE), HEADS), refused(9, 3, 0));
+    assert_eq!(written(text(&changed(&acl, "acl\t3", "rules\t3")), text(TREE), HEADS), refused(9, 2, 0));
+    assert_eq!(written(text("acl\t0\nend\t1\n"), text("tree\t0\t1\t0\nleaf\t0\t0\nend\t2\n"), HEAD), "hit\t0\n");
 }
 
 #[test]

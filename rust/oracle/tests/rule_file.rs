@@ -15,12 +15,12 @@ end\t4
 ";
 
 fn refused(number: u64, place: u64) -> Answer {
-    Answer { number, place, extra: 0, a: 0, b: 0, c: 0 }
+    Answer { number, place, extra: 0, a: 0, b: 0, c: 0, d: 0 }
 }
 
 /// The text is refused so, with room and without, and nothing is written.
 fn expect_refused(text: &str, number: u64, place: u64) {
-    for room in [0, 30, 50] {
+    for room in [0, 33, 50] {
         let mut rules = vec![AS_FOUND; room];
         assert_eq!(rules_read(text.as_bytes(), &mut rules), refused(number, place), "{text:?}");
         assert!(rules.iter().all(|&word| word == AS_FOUND));
@@ -47,10 +47,10 @@ fn the_policy_is_written_and_read_back() {
         assert_eq!(&text[..TEXT.len()], TEXT.as_bytes());
         assert!(text[TEXT.len()..].iter().all(|&byte| byte == BYTE_AS_FOUND));
 
-        let mut rules = vec![AS_FOUND; 30 + spare];
+        let mut rules = vec![AS_FOUND; 33 + spare];
         assert_eq!(rules_read(TEXT.as_bytes(), &mut rules), Answer::completed(3, 0, 0));
-        assert_eq!(&rules[..30], policy());
-        assert!(rules[30..].iter().all(|&word| word == AS_FOUND));
+        assert_eq!(&rules[..33], policy());
+        assert!(rules[33..].iter().all(|&word| word == AS_FOUND));
     }
 }
 
@@ -61,18 +61,18 @@ fn a_writer_refuses_with_1_2_then_4() {
     assert_eq!(rules_write(&policy(), &mut text[..length - 1]), refused(4, length as u64));
     assert_eq!(rules_write(&policy(), &mut []), refused(4, length as u64));
     let mut bad = policy();
-    bad[19] = 256;
+    bad[20] = 256;
     assert_eq!(rules_write(&bad, &mut []), refused(2, 1));
-    assert_eq!(rules_write(&bad[..29], &mut text), refused(1, 0));
+    assert_eq!(rules_write(&bad[..32], &mut text), refused(1, 0));
     assert_eq!(rules_write(&policy().repeat(171), &mut text), refused(1, 0));
     assert_eq!(text, [BYTE_AS_FOUND; 200]);
 }
 
 #[test]
 fn room_that_is_short_is_4_with_the_words_needed() {
-    for room in [0, 1, 29] {
+    for room in [0, 1, 30, 32] {
         let mut rules = vec![AS_FOUND; room];
-        assert_eq!(rules_read(TEXT.as_bytes(), &mut rules), refused(4, 30));
+        assert_eq!(rules_read(TEXT.as_bytes(), &mut rules), refused(4, 33));
         assert!(rules.iter().all(|&word| word == AS_FOUND));
     }
     assert_eq!(rules_read(b"rules\t0\nend\t1\n", &mut []), Answer::completed(0, 0, 0));
@@ -172,13 +172,13 @@ fn tabs_and_lines_are_as_many_as_they_must_be() {
 
 #[test]
 fn a_file_holds_512_rules_and_not_513() {
-    let mut rules = vec![AS_FOUND; 5_121];
+    let mut rules = vec![AS_FOUND; 5_633];
     assert_eq!(rules_read(text_of(512).as_bytes(), &mut rules), Answer::completed(512, 0, 0));
-    assert_eq!(rules[5_120], AS_FOUND);
-    assert_eq!(rules_read(text_of(512).as_bytes(), &mut rules[..5_119]), refused(4, 5_120));
+    assert_eq!(rules[5_632], AS_FOUND);
+    assert_eq!(rules_read(text_of(512).as_bytes(), &mut rules[..5_631]), refused(4, 5_632));
     expect_refused(&text_of(513), 9, 1);
     let mut text = vec![0; text_of(512).len()];
-    assert_eq!(rules_write(&rules[..5_120], &mut text), Answer::completed(text.len() as u64, 0, 0));
+    assert_eq!(rules_write(&rules[..5_632], &mut text), Answer::completed(text.len() as u64, 0, 0));
     assert_eq!(text, text_of(512).as_bytes());
 }
 
@@ -187,5 +187,5 @@ fn two_good_files_can_be_stitched_to_one() {
     let other = with("\t80\t80", "\t81\t81");
     let seam = TEXT.find("rule\t1").expect("the line is there");
     let stitched = [&other[..seam], &TEXT[seam..]].concat();
-    assert_eq!(rules_read(stitched.as_bytes(), &mut [0; 30]), Answer::completed(3, 0, 0));
+    assert_eq!(rules_read(stitched.as_bytes(), &mut [0; 33]), Answer::completed(3, 0, 0));
 }

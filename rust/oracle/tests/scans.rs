@@ -5,11 +5,11 @@ mod worked;
 use oracle::{scan_all, scan_first, Answer};
 use worked::{header, policy, ADDRESS_10_1_2_3, AS_FOUND};
 
-const EVERYTHING: [u32; 10] = [0, 0, 0, 0, 0, 65_535, 0, 65_535, 0, 255];
+const EVERYTHING: [u32; 11] = [0, 0, 0, 0, 0, 65_535, 0, 65_535, 0, 255, 0];
 const HEADER: [u32; 5] = [7, 7, 7, 7, 7];
 
 fn refused(number: u64, place: u64) -> Answer {
-    Answer { number, place, extra: 0, a: 0, b: 0, c: 0 }
+    Answer { number, place, extra: 0, a: 0, b: 0, c: 0, d: 0 }
 }
 
 /// Expects these numbers with exact room and with more, 4 with any less, and the first of them from first-match.
@@ -39,25 +39,25 @@ fn rules_that_are_not_good_are_compared_as_they_are() {
     // A stray bit, a length over 32, a range that is turned round, and ends over the limits.
     let mut rules = EVERYTHING.repeat(6);
     rules[..2].copy_from_slice(&[7, 8]);
-    rules[11] = 33;
-    rules[24..26].copy_from_slice(&[8, 7]);
-    rules[35] = 70_000;
-    rules[49] = u32::MAX;
+    rules[12] = 33;
+    rules[26..28].copy_from_slice(&[8, 7]);
+    rules[38] = 70_000;
+    rules[53] = u32::MAX;
     expect_list(&rules, &HEADER, &[0, 3, 4, 5]);
 }
 
 #[test]
 fn words_past_the_last_whole_rule_are_no_rule() {
     let rules = EVERYTHING.repeat(3);
-    for words in 0..=30 {
-        let list: Vec<u32> = (0..words as u32 / 10).collect();
+    for words in 0..=33 {
+        let list: Vec<u32> = (0..words as u32 / 11).collect();
         expect_list(&rules[..words], &HEADER, &list);
     }
 }
 
 #[test]
 fn a_scan_has_no_limit_of_rules() {
-    let mut rules = [8, 32, 0, 0, 0, 0, 0, 0, 0, 0].repeat(700);
+    let mut rules = [8, 32, 0, 0, 0, 0, 0, 0, 0, 0, 0].repeat(700);
     rules.extend(EVERYTHING.repeat(2));
     expect_list(&rules, &HEADER, &[700, 701]);
 }

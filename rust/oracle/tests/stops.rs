@@ -8,9 +8,9 @@ use oracle::stops::{begin, go_on, Come};
 use oracle::{build_on, build_some, tree_check, Answer, Refusal};
 use worked::{policy, AS_FOUND};
 
-type Rule = [u32; 10];
+type Rule = [u32; 11];
 
-const EVERYTHING: Rule = [0, 0, 0, 0, 0, 65_535, 0, 65_535, 0, 255];
+const EVERYTHING: Rule = [0, 0, 0, 0, 0, 65_535, 0, 65_535, 0, 255, 0];
 
 /// The tree of `seventeen`: two cuts, and leaves of 4, 6 and 7 entries.
 const NODES: [[u32; 3]; 5] = [[3, 50, 4], [3, 29, 3], [5, 0, 4], [5, 4, 6], [5, 10, 7]];
@@ -20,7 +20,7 @@ const POOL: [u32; 17] = [0, 1, 9, 10, 2, 3, 4, 11, 12, 13, 5, 6, 7, 8, 14, 15, 1
 fn seventeen() -> Vec<u32> {
     let rule = |number: u32| {
         let (port, protocol) = (10 * (number % 9 + 1), 1 + number / 9);
-        [0, 0, 0, 0, 0, 65_535, port, port, protocol, protocol]
+        [0, 0, 0, 0, 0, 65_535, port, port, protocol, protocol, 0]
     };
     (0..17).map(rule).collect::<Vec<Rule>>().concat()
 }
@@ -42,7 +42,7 @@ fn words(nodes: &[[u32; 3]], pool: &[u32]) -> TreeWords {
 }
 
 fn refused(number: u64, place: u64, extra: u64) -> Answer {
-    Answer { number, place, extra, a: 0, b: 0, c: 0 }
+    Answer { number, place, extra, a: 0, b: 0, c: 0, d: 0 }
 }
 
 /// Expects the call to give these words, with exact room and with more, and to say whether they are whole.
@@ -67,12 +67,12 @@ fn on_in(rules: &[u32], rule_count: u64, part: &TreeWords, most: u64, rooms: [us
 
 /// Goes on with ample room from a part whose number of rules is told rightly.
 fn on(rules: &[u32], part: &TreeWords, most: u64) -> Answer {
-    on_in(rules, rules.len() as u64 / 10, part, most, [7_000, 5_000])
+    on_in(rules, rules.len() as u64 / 11, part, most, [7_000, 5_000])
 }
 
 /// The same, and what it comes to.
 fn come(rules: &[u32], part: &TreeWords, most: u64) -> Result<Come, Refusal> {
-    go_on(rules, rules.len() as u64 / 10, part.clone(), most, LARGEST_ROOM)
+    go_on(rules, rules.len() as u64 / 11, part.clone(), most, LARGEST_ROOM)
 }
 
 /// Goes on to the end. The tree check must accept what comes out.
@@ -87,7 +87,7 @@ fn finished(rules: &[u32], part: &TreeWords) -> TreeWords {
 fn expect_refusal(rules: &[u32], part: &TreeWords, refusal: Answer) {
     for rooms in [[0, 0], [3, 0], [7_000, 5_000]] {
         for most in [0, 1, 100, u64::MAX] {
-            assert_eq!(on_in(rules, rules.len() as u64 / 10, part, most, rooms), refusal, "{part:?}");
+            assert_eq!(on_in(rules, rules.len() as u64 / 11, part, most, rooms), refusal, "{part:?}");
         }
     }
 }
@@ -123,7 +123,7 @@ fn from_every_stop_by_every_number_of_nodes() {
 
 #[test]
 fn any_number_of_stops_ends_in_the_tree_of_a_build_never_stopped() {
-    let rules: Vec<u32> = (0..60).flat_map(|port| [0, 0, 0, 0, port, 3 * port + 9, port, port, 6, 6]).collect();
+    let rules: Vec<u32> = (0..60).flat_map(|port| [0, 0, 0, 0, port, 3 * port + 9, port, port, 6, 6, 0]).collect();
     let whole = compile(&rules, LARGEST_ROOM).expect("the tree fits");
     for step in [0, 1, 2, 3, 7, 50] {
         let mut at = begin(&rules, step, LARGEST_ROOM).expect("it fits");
@@ -176,10 +176,10 @@ fn the_list_is_judged_first_and_the_told_number_of_rules_after_the_lengths() {
     let part = stop(3);
     for rooms in [[0, 0], [7_000, 5_000]] {
         let mut bad = seventeen();
-        bad[10 * 7 + 9] = 256;
-        let twins = [seventeen(), seventeen()[30..40].to_vec()].concat();
+        bad[11 * 7 + 9] = 256;
+        let twins = [seventeen(), seventeen()[33..44].to_vec()].concat();
         for (rules, refusal) in [
-            (vec![0; 9], refused(1, 0, 0)),
+            (vec![0; 10], refused(1, 0, 0)),
             (EVERYTHING.repeat(513), refused(1, 0, 0)),
             (bad, refused(2, 7, 0)),
             (twins, refused(11, 17, 3)),
@@ -390,7 +390,7 @@ fn parts_at_the_limits_that_are_still_open_are_taken_and_then_4() {
         assert_eq!(on_in(&[], 0, &open, most, [6_140, 0]), refused(4, 6_141, 0));
     }
     // Eight leaves of 512 entries under eight cuts: the last part is open, and has 512 more.
-    let rules: Vec<u32> = (0..512).flat_map(|rule| [0, 0, 0, 0, rule, 65_535, 0, 65_535, 0, 255]).collect();
+    let rules: Vec<u32> = (0..512).flat_map(|rule| [0, 0, 0, 0, rule, 65_535, 0, 65_535, 0, 255, 0]).collect();
     let all: Vec<u32> = (0..512).collect();
     let mut nodes: Vec<[u32; 3]> = (0..8).flat_map(|cut| [[0, cut, 2 * cut + 2], [5, 512 * cut, 512]]).collect();
     nodes[14][2] = 0;
@@ -408,8 +408,8 @@ fn parts_at_the_limits_that_are_still_open_are_taken_and_then_4() {
 fn a_tree_past_the_limits_stops_before_its_first_node_that_does_not_fit() {
     // Each leaf is met by four sources and four destinations, and there would be 4,096 leaves.
     let rule = |number: u32| match number / 256 {
-        0 => [(number % 256) << 24, 8, 0, 0, 0, 65_535, 0, 65_535, 0, 255],
-        _ => [0, 0, (number % 256) << 24, 8, 0, 65_535, 0, 65_535, 0, 255],
+        0 => [(number % 256) << 24, 8, 0, 0, 0, 65_535, 0, 65_535, 0, 255, 0],
+        _ => [0, 0, (number % 256) << 24, 8, 0, 65_535, 0, 65_535, 0, 255, 0],
     };
     let rules: Vec<u32> = (0..512).flat_map(rule).collect();
     let never_stopped = compile(&rules, LARGEST_ROOM).expect_err("the tree is over the limits");

@@ -17,7 +17,7 @@ end\t6
 ";
 
 fn refused(number: u64, place: u64, extra: u64) -> Answer {
-    Answer { number, place, extra, a: 0, b: 0, c: 0 }
+    Answer { number, place, extra, a: 0, b: 0, c: 0, d: 0 }
 }
 
 /// Reads the text into so many words of nodes and pool, which stay as found where it is refused.

@@ -2,13 +2,13 @@
 
 use oracle::{tree_all, tree_check, tree_first, Answer};
 
-const EVERYTHING: [u32; 10] = [0, 0, 0, 0, 0, 65_535, 0, 65_535, 0, 255];
+const EVERYTHING: [u32; 11] = [0, 0, 0, 0, 0, 65_535, 0, 65_535, 0, 255, 0];
 
 /// Two rules that meet every box of the trees below, which are cut by the protocol alone.
-const TWO_RULES: [[u32; 10]; 2] = [EVERYTHING, [0, 0, 0, 0, 0, 65_535, 80, 80, 0, 255]];
+const TWO_RULES: [[u32; 11]; 2] = [EVERYTHING, [0, 0, 0, 0, 0, 65_535, 80, 80, 0, 255, 0]];
 
 fn refused(number: u64, place: u64, extra: u64) -> Answer {
-    Answer { number, place, extra, a: 0, b: 0, c: 0 }
+    Answer { number, place, extra, a: 0, b: 0, c: 0, d: 0 }
 }
 
 /// So many cuts one below the other, each the left child of the one above, and their leaves, all of count 0.
@@ -60,7 +60,7 @@ fn node_words_and_pool_have_limits() {
     assert_eq!(tree_check(&[], &[5, 0, 0], &[0; 4_097]), refused(5, 0, 0));
     assert_eq!(tree_check(&[], &[5, 0, 0], &[0; 4_096]), refused(7, 1, 0));
     assert_eq!(tree_check(&[0], &[], &[]), refused(1, 0, 0));
-    assert_eq!(tree_check(&[u32::MAX; 10], &[], &[]), refused(2, 0, 0));
+    assert_eq!(tree_check(&[u32::MAX; 11], &[], &[]), refused(2, 0, 0));
     assert_eq!(tree_check(&EVERYTHING.repeat(2), &[], &[]), refused(11, 1, 0));
 }
 

@@ -2,11 +2,11 @@
 
 use oracle::{tree_all, tree_first, Answer};
 
-const EVERYTHING: [u32; 10] = [0, 0, 0, 0, 0, 65_535, 0, 65_535, 0, 255];
+const EVERYTHING: [u32; 11] = [0, 0, 0, 0, 0, 65_535, 0, 65_535, 0, 255, 0];
 const HEADER: [u32; 5] = [7, 7, 7, 7, 7];
 
 fn refused(number: u64, place: u64) -> Answer {
-    Answer { number, place, extra: 0, a: 0, b: 0, c: 0 }
+    Answer { number, place, extra: 0, a: 0, b: 0, c: 0, d: 0 }
 }
 
 /// Expects both searches to refuse so, with room and without.
@@ -55,9 +55,9 @@ fn a_leaf_past_the_pool_is_7() {
 fn an_entry_must_name_a_rule_that_is_wholly_lent() {
     let rules = EVERYTHING.repeat(2);
     expect_refused(&rules, &[5, 0, 3], &[0, 1, 2], 7, 0);
-    expect_refused(&rules[..19], &[5, 0, 2], &[0, 1], 7, 0);
+    expect_refused(&rules[..21], &[5, 0, 2], &[0, 1], 7, 0);
     expect_refused(&rules, &[5, 0, 2], &[0, u32::MAX], 7, 0);
-    assert_eq!(tree_first(&rules[..19], &[5, 0, 1], &[0, 1], &HEADER), Answer::completed(1, 1, 1));
+    assert_eq!(tree_first(&rules[..21], &[5, 0, 1], &[0, 1], &HEADER), Answer::completed(1, 1, 1));
 }
 
 #[test]

@@ -18,7 +18,7 @@ fn expect_list(header: [u32; 5], list: &[u32]) {
 }
 
 fn refused(number: u64, place: u64) -> Answer {
-    Answer { number, place, extra: 0, a: 0, b: 0, c: 0 }
+    Answer { number, place, extra: 0, a: 0, b: 0, c: 0, d: 0 }
 }
 
 #[test]

@@ -21,7 +21,7 @@ fn expect_list(header: [u32; 5], list: &[u32], visited: u64, compared: u64, firs
 }
 
 fn refused(number: u64, place: u64, extra: u64) -> Answer {
-    Answer { number, place, extra, a: 0, b: 0, c: 0 }
+    Answer { number, place, extra, a: 0, b: 0, c: 0, d: 0 }
 }
 
 #[test]

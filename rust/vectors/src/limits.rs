@@ -36,8 +36,8 @@ pub fn lengths() {
 
 /// So many rules: each has the source ports from 0 to its own number, and only the last holds a protocol but 0.
 fn many(rules: usize) -> Vec<u32> {
-    let mut list: Vec<u32> = (0..rules as u32).flat_map(|rule| [0, 0, 0, 0, 0, rule, 0, 0, 0, 0]).collect();
-    list[10 * rules - 1] = 255;
+    let mut list: Vec<u32> = (0..rules as u32).flat_map(|rule| [0, 0, 0, 0, 0, rule, 0, 0, 0, 0, 0]).collect();
+    list[11 * rules - 2] = 255;
     list
 }
 
@@ -46,20 +46,20 @@ pub fn rules() {
     let header = [0, 0, 0, 0, 6];
     say::rule_check("512 rules", &list);
     say::search_list("512 rules", &list, &header);
-    say::rule_check("512 rules but one word", &list[..5_119]);
+    say::rule_check("512 rules but one word", &list[..5_631]);
     let mut last_bad = list;
-    last_bad[5_118] = 256;
+    last_bad[5_629] = 256;
     say::rule_check("512 rules, the last not good", &last_bad);
     say::scan_list("512 rules, the last not good", &last_bad, &[0; 5]);
-    say::rules_read("a file of 512 rules, cut after its first line", b"rules\t512\n", 5_120);
+    say::rules_read("a file of 512 rules, cut after its first line", b"rules\t512\n", 5_632);
 
     let more = many(513);
     say::rule_check("513 rules", &more);
     say::search_list("513 rules", &more, &header);
     say::scan_list("513 rules", &more, &header);
-    say::scan_list("513 rules but one word", &more[..5_129], &header);
+    say::scan_list("513 rules but one word", &more[..5_642], &header);
     say::tree_check("513 rules", &more, &Tree { nodes: vec![[5, 0, 0]], pool: vec![] });
-    say::rules_read("a file of 513 rules, cut after its first line", b"rules\t513\n", 5_130);
+    say::rules_read("a file of 513 rules, cut after its first line", b"rules\t513\n", 5_643);
 }
 
 /// So many cuts, each the right child of the one above, with an empty leaf on its left; then the last leaf.

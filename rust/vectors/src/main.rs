@@ -3,6 +3,7 @@
 
 #![forbid(unsafe_code)]
 
+mod actions;
 mod limits;
 mod say;
 mod twins;
@@ -15,6 +16,8 @@ fn main() {
     worked::tree_file();
     twins::lists();
     twins::rule_file();
+    actions::lists();
+    actions::rule_file();
     limits::lengths();
     limits::rules();
     limits::cuts();

@@ -16,9 +16,9 @@ pub fn address(text: &str) -> u32 {
     text.parse::<Ipv4Addr>().expect("an address").into()
 }
 
-/// A prefix with every port and protocol, from it to any.
-pub fn from_prefix(source: u32, length: u32) -> [u32; 10] {
-    [source, length, 0, 0, 0, 65_535, 0, 65_535, 0, 255]
+/// A prefix with every port and protocol, from it to any, and action 0.
+pub fn from_prefix(source: u32, length: u32) -> [u32; 11] {
+    [source, length, 0, 0, 0, 65_535, 0, 65_535, 0, 255, 0]
 }
 
 /// The call with its answer. A completed call has these values.
@@ -36,11 +36,14 @@ fn numbers(values: &[u64]) -> Vec<String> {
     values.iter().map(u64::to_string).collect()
 }
 
-fn rule_or_none(rule: Option<u64>) -> Vec<String> {
-    match rule {
-        Some(rule) => vec!["rule".to_string(), rule.to_string()],
-        None => vec!["none".to_string()],
+/// What a first-match found: the rule, and its action where that is not 0.
+fn rule_or_none(answer: Answer) -> Vec<String> {
+    let Some(rule) = answer.a.checked_sub(1) else { return vec!["none".to_string()] };
+    let mut words = vec!["rule".to_string(), rule.to_string()];
+    if answer.d != 0 {
+        words.extend(["action".to_string(), answer.d.to_string()]);
     }
+    words
 }
 
 pub fn rule_check(example: &str, rules: &[u32]) {
@@ -71,7 +74,7 @@ pub fn tree_all(example: &str, rules: &[u32], tree: &Tree, header: &[u32], room:
 pub fn search_list(example: &str, rules: &[u32], header: &[u32]) {
     line_all(example, rules, header, 3);
     let answer = oracle::line_first(rules, header);
-    line(example, "line_first", answer, &rule_or_none(answer.a.checked_sub(1)), &[]);
+    line(example, "line_first", answer, &rule_or_none(answer), &[]);
 }
 
 /// Both scans, likewise.
@@ -80,19 +83,19 @@ pub fn scan_list(example: &str, rules: &[u32], header: &[u32]) {
     let answer = oracle::scan_all(rules, header, &mut out);
     line(example, "scan_all", answer, &numbers(&[answer.a]), &out);
     let answer = oracle::scan_first(rules, header);
-    line(example, "scan_first", answer, &rule_or_none(answer.a.checked_sub(1)), &[]);
+    line(example, "scan_first", answer, &rule_or_none(answer), &[]);
 }
 
 /// Both searches of the tree, likewise.
 pub fn search_tree(example: &str, rules: &[u32], tree: &Tree, header: &[u32]) {
     tree_all(example, rules, tree, header, 3);
     let answer = oracle::tree_first(rules, &tree.nodes.concat(), &tree.pool, header);
-    let mut values = rule_or_none(answer.a.checked_sub(1));
+    let mut values = rule_or_none(answer);
     values.extend(numbers(&[answer.b, answer.c]));
     line(example, "tree_first", answer, &values, &[]);
 }
 
-/// Writes a list's file into so many bytes, which it hands back.
+/// Writes a list's file without actions into so many bytes, which it hands back.
 pub fn rules_write(example: &str, rules: &[u32], room: usize) -> Vec<u8> {
     let mut text = vec![0; room];
     let answer = oracle::rules_write(rules, &mut text);
@@ -100,11 +103,24 @@ pub fn rules_write(example: &str, rules: &[u32], room: usize) -> Vec<u8> {
     text
 }
 
-/// Reads a list's file into so many words, which it hands back.
+/// Writes a list's file with actions, likewise.
+pub fn acl_write(example: &str, rules: &[u32], room: usize) -> Vec<u8> {
+    let mut text = vec![0; room];
+    let answer = oracle::acl_write(rules, &mut text);
+    line(example, "acl_write", answer, &numbers(&[answer.a]), &[]);
+    text
+}
+
+/// Reads a list's file into so many words, which it hands back. Behind the number of rules it says `acl` where the file
+/// has actions.
 pub fn rules_read(example: &str, text: &[u8], room: usize) -> Vec<u32> {
     let mut rules = vec![0; room];
     let answer = oracle::rules_read(text, &mut rules);
-    line(example, "rules_read", answer, &numbers(&[answer.a]), &[]);
+    let mut values = numbers(&[answer.a]);
+    if answer.b == 1 {
+        values.push("acl".to_string());
+    }
+    line(example, "rules_read", answer, &values, &[]);
     rules
 }
 

@@ -3,8 +3,8 @@
 use crate::say::{self, Tree};
 
 /// A rule of zeros, with this highest protocol.
-fn rule(protocol: u32) -> [u32; 10] {
-    [0, 0, 0, 0, 0, 0, 0, 0, 0, protocol]
+fn rule(protocol: u32) -> [u32; 11] {
+    [0, 0, 0, 0, 0, 0, 0, 0, 0, protocol, 0]
 }
 
 pub fn lists() {
@@ -24,13 +24,13 @@ pub fn lists() {
 pub fn rule_file() {
     let mut text = say::rules_write("two rules that differ in one word", &[rule(0), rule(1)].concat(), TEXT.len());
     assert_eq!(text, TEXT.as_bytes());
-    say::rules_read("two rules that differ in one word", &text, 20);
+    say::rules_read("two rules that differ in one word", &text, 22);
     // The highest protocol of rule 1.
     let last = TEXT.find("1\nend").expect("the number is there");
     text[last] = b'0';
-    say::rules_read("twins", &text, 20);
+    say::rules_read("twins", &text, 22);
     say::rules_read("twins, room for no word", &text, 0);
-    say::rules_read("twins without the last newline", &text[..text.len() - 1], 20);
+    say::rules_read("twins without the last newline", &text[..text.len() - 1], 22);
     say::rules_write("twins", &[rule(0), rule(0)].concat(), TEXT.len());
 }
 

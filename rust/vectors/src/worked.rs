@@ -20,21 +20,21 @@ leaf\t4\t1\t2
 end\t6
 ";
 
-fn rules() -> Vec<u32> {
+pub fn rules() -> Vec<u32> {
     let mut web = from_prefix(address("10.0.0.0"), 8);
-    web[6..].copy_from_slice(&[80, 80, 6, 6]);
+    web[6..10].copy_from_slice(&[80, 80, 6, 6]);
     let mut low_ports = from_prefix(address("10.1.0.0"), 16);
-    low_ports[6..].copy_from_slice(&[0, 1_023, 6, 6]);
+    low_ports[6..10].copy_from_slice(&[0, 1_023, 6, 6]);
     [web, low_ports, from_prefix(0, 0)].concat()
 }
 
-fn tree() -> Tree {
+pub fn tree() -> Tree {
     let below = address("10.0.0.0") - 1;
     let last = address("10.255.255.255");
     Tree { nodes: vec![[0, below, 2], [5, 0, 1], [0, last, 4], [5, 1, 3], [5, 4, 1]], pool: vec![2, 0, 1, 2, 2] }
 }
 
-fn header(source: &str, port: u32, protocol: u32) -> [u32; 5] {
+pub fn header(source: &str, port: u32, protocol: u32) -> [u32; 5] {
     [address(source), address("192.168.0.1"), 40_000, port, protocol]
 }
 
@@ -82,11 +82,11 @@ pub fn rule_file() {
     let text = say::rules_write("the list's file", &rules(), room);
     print!("{RULES_FILE}");
     assert_eq!(text, RULES_FILE.as_bytes());
-    let list = say::rules_read("the list's file", &text, 30);
+    let list = say::rules_read("the list's file", &text, 33);
     say::search_list("the list that was read", &list, &header("10.1.2.3", 80, 6));
     say::rules_write("the list's file, room for one byte less", &rules(), room - 1);
-    say::rules_read("the list's file, room for one word less", &text, 29);
-    say::rules_read("the list's file without the last newline", &text[..room - 1], 30);
+    say::rules_read("the list's file, room for one word less", &text, 32);
+    say::rules_read("the list's file without the last newline", &text[..room - 1], 33);
     say::rules_read("no text", &[], 0);
 }
 

@@ -13,7 +13,7 @@ use std::path::Path;
 use std::process::ExitCode;
 
 use wickorchard::limits::{HEADER_WORDS, MOST_FILE_BYTES, MOST_RULES};
-use wickorchard::{Header, Policy};
+use wickorchard::{Header, Kind, Policy};
 
 fn main() -> ExitCode {
     let words: Vec<String> = env::args().skip(1).collect();
@@ -74,8 +74,10 @@ fn words(five: &[String]) -> Result<[u32; HEADER_WORDS], Box<dyn Error>> {
 fn answer(policy: &Policy, header: &Header) -> String {
     let mut found = [0; MOST_RULES];
     let listed: Vec<String> = policy.all(header, &mut found).iter().map(u32::to_string).collect();
-    match policy.first(header) {
-        Some(first) => format!("rule {first} first, of {}", listed.join(" ")),
-        None => "no rule".to_string(),
-    }
+    let Some(first) = policy.first(header) else { return "no rule".to_string() };
+    let action = match policy.kind() {
+        Kind::Acl => format!(" action {},", first.action),
+        Kind::Rules => String::new(),
+    };
+    format!("rule {} first,{action} of {}", first.rule, listed.join(" "))
 }

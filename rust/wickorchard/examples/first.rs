@@ -1,4 +1,4 @@
-//! Says which rule of a rules file decides about a packet: the lowest that matches.
+//! Says which rule of a rules or acl file decides about a packet, the lowest that matches, and its action.
 //!
 //!     first RULES SOURCE DESTINATION SOURCE_PORT DESTINATION_PORT PROTOCOL
 
@@ -10,7 +10,7 @@ use wickorchard::{Header, Policy};
 fn main() -> Result<(), Box<dyn Error>> {
     let given: Vec<String> = env::args().skip(1).collect();
     let [rules, source, destination, source_port, destination_port, protocol] = &given[..] else {
-        return Err("give a rules file, two addresses, two ports and a protocol".into());
+        return Err("give a rules or acl file, two addresses, two ports and a protocol".into());
     };
     let policy = Policy::read(&fs::read(rules)?)?;
     let header = Header {
@@ -21,7 +21,7 @@ fn main() -> Result<(), Box<dyn Error>> {
         protocol: protocol.parse()?,
     };
     match policy.first(&header) {
-        Some(rule) => println!("rule {rule}"),
+        Some(found) => println!("rule {}, action {}", found.rule, found.action),
         None => println!("no rule"),
     }
     Ok(())

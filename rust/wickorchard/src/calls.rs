@@ -8,7 +8,7 @@
 //! `u32::from_be_bytes([a, b, c, d])`. [`Header::words`](crate::Header::words) makes the words of a header.
 
 use crate::limits::NODE_WORDS;
-use crate::raw::{self, Answer};
+use crate::raw::{self, Answer, ListWriter};
 use crate::refusal::Refusal;
 
 /// A tree's words: three for each node, and the entries of all leaves.
@@ -33,6 +33,32 @@ pub enum Built<'a> {
     Whole(Tree<'a>),
     /// There are more nodes to build.
     Stopped(Part<'a>),
+}
+
+/// The rule that a first-match found.
+#[derive(Clone, Copy, Debug, PartialEq, Eq)]
+pub struct Match {
+    /// Its number in the list, from 0.
+    pub rule: u32,
+    /// Its action. In a good list it is at most [`LARGEST_ACTION`](crate::limits::LARGEST_ACTION); a search that judges
+    /// no list gives the word as it is.
+    pub action: u32,
+}
+
+/// The two kinds of files that hold a list.
+#[derive(Clone, Copy, Debug, PartialEq, Eq)]
+pub enum Kind {
+    /// A rules file, which has no actions: each rule's is 0.
+    Rules,
+    /// An acl file, which has an action for each rule.
+    Acl,
+}
+
+/// What a file that holds a list holds.
+#[derive(Clone, Copy, Debug, PartialEq, Eq)]
+pub struct ListRead {
+    pub rules: usize,
+    pub kind: Kind,
 }
 
 /// What a tree search found, and what it took.
@@ -83,11 +109,11 @@ pub fn line_all<'a>(rules: &[u32], header: &[u32], out: &'a mut [u32]) -> Result
 }
 
 /// Judges the list; then finds the lowest rule that matches the header: 1, 2, 11, 3.
-pub fn line_first(rules: &[u32], header: &[u32]) -> Result<Option<u32>, Refusal> {
-    let [next, ..] = answered(|answer| unsafe {
+pub fn line_first(rules: &[u32], header: &[u32]) -> Result<Option<Match>, Refusal> {
+    answered(|answer| unsafe {
         raw::wick_line_first(rules.as_ptr(), rules.len() as u64, header.as_ptr(), header.len() as u64, answer)
-    })?;
-    Ok(rule_before(next))
+    })
+    .map(found)
 }
 
 /// As [`line_all`], but the list is not judged: 3, 4. It takes any words; words past the last whole rule are no rule. A
@@ -101,11 +127,11 @@ pub fn scan_all<'a>(rules: &[u32], header: &[u32], out: &'a mut [u32]) -> Result
 }
 
 /// As [`line_first`], but the list is not judged: 3. It takes any words, as [`scan_all`] does.
-pub fn scan_first(rules: &[u32], header: &[u32]) -> Result<Option<u32>, Refusal> {
-    let [next, ..] = answered(|answer| unsafe {
+pub fn scan_first(rules: &[u32], header: &[u32]) -> Result<Option<Match>, Refusal> {
+    answered(|answer| unsafe {
         raw::wick_scan_first(rules.as_ptr(), rules.len() as u64, header.as_ptr(), header.len() as u64, answer)
-    })?;
-    Ok(rule_before(next))
+    })
+    .map(found)
 }
 
 /// Writes the numbers in the header's leaf that match it to the front of `out`, and gives them: 3, 6, 7, 4.
@@ -119,7 +145,7 @@ pub fn tree_all<'a>(
     out: &'a mut [u32],
 ) -> Result<Counted<&'a [u32]>, Refusal> {
     let Tree { nodes, pool } = tree;
-    let [count, visited, compared] = answered(|answer| unsafe {
+    let [count, visited, compared, _] = answered(|answer| unsafe {
         let (r, n, p) = (rules.len() as u64, nodes.len() as u64, pool.len() as u64);
         let (h, o) = (header.len() as u64, out.len() as u64);
         let (rules, nodes, pool, header) = (rules.as_ptr(), nodes.as_ptr(), pool.as_ptr(), header.as_ptr());
@@ -132,19 +158,20 @@ pub fn tree_all<'a>(
 ///
 /// **The tree is not checked.** Only one that [`tree_check`] has accepted for these rules, or [`build`] has built from
 /// them, gives what the list gives.
-pub fn tree_first(rules: &[u32], tree: Tree, header: &[u32]) -> Result<Counted<Option<u32>>, Refusal> {
+pub fn tree_first(rules: &[u32], tree: Tree, header: &[u32]) -> Result<Counted<Option<Match>>, Refusal> {
     let Tree { nodes, pool } = tree;
-    let [next, visited, compared] = answered(|answer| unsafe {
+    let values = answered(|answer| unsafe {
         let (r, n, p, h) = (rules.len() as u64, nodes.len() as u64, pool.len() as u64, header.len() as u64);
         raw::wick_tree_first(rules.as_ptr(), r, nodes.as_ptr(), n, pool.as_ptr(), p, header.as_ptr(), h, answer)
     })?;
-    Ok(Counted { found: rule_before(next), visited, compared })
+    let [_, visited, compared, _] = values;
+    Ok(Counted { found: found(values), visited, compared })
 }
 
 /// May this tree serve for this list? 1, 2, 11, 5, 6, 7, 8. Where it is not refused, the tree is accepted.
 pub fn tree_check(rules: &[u32], tree: Tree) -> Result<Figures, Refusal> {
     let Tree { nodes, pool } = tree;
-    let [cuts, longest_leaf, _] = answered(|answer| unsafe {
+    let [cuts, longest_leaf, ..] = answered(|answer| unsafe {
         let (r, n, p) = (rules.len() as u64, nodes.len() as u64, pool.len() as u64);
         raw::wick_tree_check(rules.as_ptr(), r, nodes.as_ptr(), n, pool.as_ptr(), p, answer)
     })?;
@@ -158,22 +185,22 @@ pub fn tree_check(rules: &[u32], tree: Tree) -> Result<Figures, Refusal> {
 /// mends. It tells the words up to and with the first node that does not fit; with just as many, a later one may not.
 ///
 /// ```
-/// use wickorchard::calls::{build, tree_first};
+/// use wickorchard::calls::{build, tree_first, Match};
 ///
-/// // Nine rules, for destination ports 0 to 8: ports up to 4 go left, to node 1.
-/// let rules: Vec<u32> = (0..9).flat_map(|port| [0, 0, 0, 0, 0, 65_535, port, port, 6, 6]).collect();
+/// // Nine rules with action 1, for destination ports 0 to 8: ports up to 4 go left, to node 1.
+/// let rules: Vec<u32> = (0..9).flat_map(|port| [0, 0, 0, 0, 0, 65_535, port, port, 6, 6, 1]).collect();
 /// let (mut nodes, mut pool) = ([0; 30], [0; 30]);
 /// let tree = build(&rules, &mut nodes, &mut pool)?;
 /// assert_eq!(tree.nodes, [3, 4, 2, 5, 0, 5, 5, 5, 4]);
 /// assert_eq!(tree.pool, [0, 1, 2, 3, 4, 5, 6, 7, 8]);
-/// assert_eq!(tree_first(&rules, tree, &[0, 0, 0, 7, 6])?.found, Some(7));
+/// assert_eq!(tree_first(&rules, tree, &[0, 0, 0, 7, 6])?.found, Some(Match { rule: 7, action: 1 }));
 /// # Ok::<(), wickorchard::Refusal>(())
 /// ```
 ///
 /// [`MOST_NODE_WORDS`]: crate::limits::MOST_NODE_WORDS
 /// [`MOST_POOL_WORDS`]: crate::limits::MOST_POOL_WORDS
 pub fn build<'a>(rules: &[u32], nodes: &'a mut [u32], pool: &'a mut [u32]) -> Result<Tree<'a>, Refusal> {
-    let [node_count, pool_words, _] = answered(|answer| unsafe {
+    let [node_count, pool_words, ..] = answered(|answer| unsafe {
         let (r, n, p) = (rules.len() as u64, nodes.len() as u64, pool.len() as u64);
         raw::wick_build(rules.as_ptr(), r, nodes.as_mut_ptr(), n, pool.as_mut_ptr(), p, answer)
     })?;
@@ -187,7 +214,7 @@ pub fn build<'a>(rules: &[u32], nodes: &'a mut [u32], pool: &'a mut [u32]) -> Re
 /// use wickorchard::calls::{build_on, build_some, Built};
 ///
 /// // Nine rules, for destination ports 0 to 8. The first node is a cut, and none of its parts is begun.
-/// let rules: Vec<u32> = (0..9).flat_map(|port| [0, 0, 0, 0, 0, 65_535, port, port, 6, 6]).collect();
+/// let rules: Vec<u32> = (0..9).flat_map(|port| [0, 0, 0, 0, 0, 65_535, port, port, 6, 6, 1]).collect();
 /// let (mut nodes, mut pool) = ([0; 30], [0; 30]);
 /// let Built::Stopped(part) = build_some(&rules, 1, &mut nodes, &mut pool)? else { panic!("two nodes are left") };
 /// assert_eq!((part.nodes, part.pool), (&[3, 4, 0][..], &[][..]));
@@ -236,21 +263,33 @@ pub fn build_on<'a>(
     Ok(built(counts, nodes, pool))
 }
 
-/// Writes the list as a rules file to the front of `text`, and gives the file's bytes: 1, 2, 11, 4.
+/// Writes the list as a rules file, which has no actions, to the front of `text`, and gives the file's bytes: 1, 2 at
+/// the lowest rule that is not good or whose action is not 0, 11, 4.
 pub fn rules_write<'a>(rules: &[u32], text: &'a mut [u8]) -> Result<&'a [u8], Refusal> {
+    write_list(raw::wick_rules_write, rules, text)
+}
+
+/// Writes the list as an acl file, which has an action for each rule, to the front of `text`, and gives the file's
+/// bytes: 1, 2, 11, 4.
+pub fn acl_write<'a>(rules: &[u32], text: &'a mut [u8]) -> Result<&'a [u8], Refusal> {
+    write_list(raw::wick_acl_write, rules, text)
+}
+
+fn write_list<'a>(write: ListWriter, rules: &[u32], text: &'a mut [u8]) -> Result<&'a [u8], Refusal> {
     let [bytes, ..] = answered(|answer| unsafe {
-        raw::wick_rules_write(rules.as_ptr(), rules.len() as u64, text.as_mut_ptr(), text.len() as u64, answer)
+        write(rules.as_ptr(), rules.len() as u64, text.as_mut_ptr(), text.len() as u64, answer)
     })?;
     Ok(&text[..bytes as usize])
 }
 
-/// Reads a rules file, writes ten words for each rule to the front of `rules`, and gives the number of rules: 9 or 10,
-/// 11, 4. The rules of an 11 are counted from 0, as everywhere.
-pub fn rules_read(text: &[u8], rules: &mut [u32]) -> Result<usize, Refusal> {
-    answered(|answer| unsafe {
+/// Reads a rules file or an acl file, writes eleven words for each rule to the front of `rules`, and gives the number
+/// of rules and the file's kind: 9 or 10, 11, 4. The rules of an 11 are counted from 0, as everywhere.
+pub fn rules_read(text: &[u8], rules: &mut [u32]) -> Result<ListRead, Refusal> {
+    let [count, acl, ..] = answered(|answer| unsafe {
         raw::wick_rules_read(text.as_ptr(), text.len() as u64, rules.as_mut_ptr(), rules.len() as u64, answer)
-    })
-    .map(|[count, ..]| count as usize)
+    })?;
+    let kind = if acl == 0 { Kind::Rules } else { Kind::Acl };
+    Ok(ListRead { rules: count as usize, kind })
 }
 
 /// Writes the tree, which is for so many rules, as a tree file to the front of `text`, and gives the file's bytes: 1,
@@ -271,7 +310,7 @@ pub fn tree_read(text: &[u8], nodes: &mut [u32], pool: &mut [u32]) -> Result<Tre
         let (t, n, p) = (text.len() as u64, nodes.len() as u64, pool.len() as u64);
         raw::wick_tree_read(text.as_ptr(), t, nodes.as_mut_ptr(), n, pool.as_mut_ptr(), p, answer)
     })?;
-    let [rules, nodes, pool] = counts.map(|count| count as usize);
+    let [rules, nodes, pool, _] = counts.map(|count| count as usize);
     Ok(TreeCounts { rules, nodes, pool })
 }
 
@@ -293,12 +332,12 @@ pub fn part_read(text: &[u8], nodes: &mut [u32], pool: &mut [u32]) -> Result<Tre
         let (t, n, p) = (text.len() as u64, nodes.len() as u64, pool.len() as u64);
         raw::wick_part_read(text.as_ptr(), t, nodes.as_mut_ptr(), n, pool.as_mut_ptr(), p, answer)
     })?;
-    let [rules, nodes, pool] = counts.map(|count| count as usize);
+    let [rules, nodes, pool, _] = counts.map(|count| count as usize);
     Ok(TreeCounts { rules, nodes, pool })
 }
 
 /// What a build that may stop has written: so many nodes and pool words, and 1 where they are the whole tree.
-fn built<'a>([node_count, pool_words, whole]: [u64; 3], nodes: &'a [u32], pool: &'a [u32]) -> Built<'a> {
+fn built<'a>([node_count, pool_words, whole, _]: [u64; 4], nodes: &'a [u32], pool: &'a [u32]) -> Built<'a> {
     let (nodes, pool) = (&nodes[..node_count as usize * NODE_WORDS], &pool[..pool_words as usize]);
     match whole {
         0 => Built::Stopped(Part { nodes, pool }),
@@ -306,17 +345,18 @@ fn built<'a>([node_count, pool_words, whole]: [u64; 3], nodes: &'a [u32], pool: 
     }
 }
 
-/// What a first-match found: its value is the rule's number + 1, or 0 where none matches.
-fn rule_before(next: u64) -> Option<u32> {
-    next.checked_sub(1).map(|rule| rule as u32)
+/// What a first-match found, of whose values the first is the rule's number + 1, or 0 where none matches, and the last
+/// is its action.
+fn found([next, _, _, action]: [u64; 4]) -> Option<Match> {
+    next.checked_sub(1).map(|rule| Match { rule: rule as u32, action: action as u32 })
 }
 
-/// The values of a completed call.
-fn answered(call: impl FnOnce(&mut Answer)) -> Result<[u64; 3], Refusal> {
+/// The values a to d of a completed call.
+fn answered(call: impl FnOnce(&mut Answer)) -> Result<[u64; 4], Refusal> {
     let mut answer = [0; 8];
     call(&mut answer);
     match Refusal::of(&answer) {
         Some(refusal) => Err(refusal),
-        None => Ok([answer[3], answer[4], answer[5]]),
+        None => Ok([answer[3], answer[4], answer[5], answer[6]]),
     }
 }

@@ -7,11 +7,12 @@
 //!
 //! ```
 //! use wickorchard::limits::MOST_RULES;
-//! use wickorchard::{Header, Policy, Refusal};
+//! use wickorchard::{Header, Match, Policy, Refusal};
 //!
-//! let text = "rules\t2\n\
-//!     rule\t0\t10.0.0.0/8\t0.0.0.0/0\t0\t65535\t80\t80\t6\t6\n\
-//!     rule\t1\t0.0.0.0/0\t0.0.0.0/0\t0\t65535\t0\t65535\t0\t255\n\
+//! // Two rules, with the actions 1 and 0.
+//! let text = "acl\t2\n\
+//!     rule\t0\t10.0.0.0/8\t0.0.0.0/0\t0\t65535\t80\t80\t6\t6\t1\n\
+//!     rule\t1\t0.0.0.0/0\t0.0.0.0/0\t0\t65535\t0\t65535\t0\t255\t0\n\
 //!     end\t3\n";
 //! let policy = Policy::read(text.as_bytes())?;
 //! let header = Header {
@@ -21,7 +22,7 @@
 //!     destination_port: 80,
 //!     protocol: 6,
 //! };
-//! assert_eq!(policy.first(&header), Some(0));
+//! assert_eq!(policy.first(&header), Some(Match { rule: 0, action: 1 }));
 //! let mut found = [0; MOST_RULES];
 //! assert_eq!(policy.all(&header, &mut found), [0, 1]);
 //!
@@ -37,6 +38,7 @@ pub mod policy;
 pub mod raw;
 pub mod refusal;
 
+pub use calls::{Kind, Match};
 pub use header::Header;
 pub use policy::Policy;
 pub use refusal::Refusal;

@@ -1,8 +1,10 @@
 //! The limits, and how many words make what is lent. `include/wickorchard.h` has the same numbers.
 
 /// The words of a rule: source address and its length, destination address and its length, then the lowest and the
-/// highest source port, destination port and protocol.
-pub const RULE_WORDS: usize = 10;
+/// highest source port, destination port and protocol, then the action.
+pub const RULE_WORDS: usize = 11;
+/// The word of a rule that is its action.
+pub const ACTION: usize = 10;
 /// The words of a header: source address, destination address, source port, destination port, protocol.
 pub const HEADER_WORDS: usize = 5;
 /// The words of a node: a cut's field, value and right child; or a leaf's [`LEAF`], start in the pool and count.
@@ -15,6 +17,8 @@ pub const ADDRESS_BITS: u32 = 32;
 pub const LARGEST_PORT: u32 = 65_535;
 /// The largest protocol.
 pub const LARGEST_PROTOCOL: u32 = 255;
+/// The largest action of a rule.
+pub const LARGEST_ACTION: u32 = 255;
 /// The most rules of a list.
 pub const MOST_RULES: usize = 512;
 /// The most words of a list.

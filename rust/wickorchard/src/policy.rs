@@ -1,7 +1,7 @@
 //! A policy in memory: a list that was judged, and a tree that serves in its place once the check has accepted it, or
 //! once it is compiled from the list.
 
-use crate::calls::{self, Figures, Tree};
+use crate::calls::{self, Figures, Kind, ListRead, Match, Tree};
 use crate::header::Header;
 use crate::limits::{MOST_NODE_WORDS, MOST_POOL_WORDS, MOST_RULES, MOST_RULE_WORDS, NODE_WORDS, RULE_WORDS};
 use crate::refusal::Refusal;
@@ -15,17 +15,23 @@ const JUDGED: &str = "the list is good, the tree is accepted, the header is lega
 #[derive(Clone, Debug)]
 pub struct Policy {
     rules: Vec<u32>,
+    kind: Kind,
     /// The nodes and the pool of a tree that the check has accepted for these rules, or that was compiled from them.
     tree: Option<(Vec<u32>, Vec<u32>)>,
 }
 
 impl Policy {
-    /// The list that a rules file holds, with no tree: 9, 10 or 11.
-    pub fn read(rules_file: &[u8]) -> Result<Policy, Refusal> {
+    /// The list that a rules file or an acl file holds, with no tree: 9, 10 or 11.
+    pub fn read(list_file: &[u8]) -> Result<Policy, Refusal> {
         let mut rules = vec![0; MOST_RULE_WORDS];
-        let count = calls::rules_read(rules_file, &mut rules)?;
+        let ListRead { rules: count, kind } = calls::rules_read(list_file, &mut rules)?;
         rules.truncate(count * RULE_WORDS);
-        Ok(Policy { rules, tree: None })
+        Ok(Policy { rules, kind, tree: None })
+    }
+
+    /// Which kind of file the list was read from. The rules of a rules file all have action 0.
+    pub fn kind(&self) -> Kind {
+        self.kind
     }
 
     /// Has the tree that a tree file holds serve from now on: 9 or 10, 6, 7, 8. Where the file is refused, or the check
@@ -69,8 +75,8 @@ impl Policy {
         .expect(JUDGED)
     }
 
-    /// The lowest rule that matches the header.
-    pub fn first(&self, header: &Header) -> Option<u32> {
+    /// The lowest rule that matches the header, and its action.
+    pub fn first(&self, header: &Header) -> Option<Match> {
         let header = header.words();
         match &self.tree {
             Some((nodes, pool)) => {

@@ -6,6 +6,9 @@
 /// What a call answers: number, place, extra, and the values a to e, of which a call that gives fewer has 0.
 pub type Answer = [u64; 8];
 
+/// A function that writes a list as a file.
+pub type ListWriter = unsafe extern "C" fn(*const u32, u64, *mut u8, u64, *mut Answer);
+
 extern "C" {
     pub fn wick_rule_check(rules: *const u32, rules_len: u64, answer: *mut Answer);
     pub fn wick_line_all(
@@ -96,6 +99,7 @@ extern "C" {
         answer: *mut Answer,
     );
     pub fn wick_rules_write(rules: *const u32, rules_len: u64, text: *mut u8, text_len: u64, answer: *mut Answer);
+    pub fn wick_acl_write(rules: *const u32, rules_len: u64, text: *mut u8, text_len: u64, answer: *mut Answer);
     pub fn wick_rules_read(text: *const u8, text_len: u64, rules: *mut u32, rules_len: u64, answer: *mut Answer);
     pub fn wick_tree_write(
         rule_count: u64,

@@ -8,10 +8,10 @@ use crate::raw::Answer;
 /// What is wrong, with its place and, where it has one, its extra.
 #[derive(Clone, Copy, Debug, PartialEq, Eq)]
 pub enum Refusal {
-    /// 1: the rule words are not a multiple of ten, or over 5,120; or a tree or a part to write is for more than 512
+    /// 1: the rule words are not a multiple of eleven, or over 5,632; or a tree or a part to write is for more than 512
     /// rules.
     RuleWordsWrong,
-    /// 2: a rule is not good. This is the lowest such rule.
+    /// 2: a rule is not good, or has an action that a rules file cannot hold. This is the lowest such rule.
     RuleNotGood { rule: u64 },
     /// 3: a port or the protocol of the header is too large, and this is the lowest such field; or the header is not
     /// five words, and the field is 5.
@@ -34,7 +34,8 @@ pub enum Refusal {
     LineWrong { line: u64 },
     /// 10: the text stops before its end line, after so many whole lines.
     TextStops { lines: u64 },
-    /// 11: a rule has the words of an earlier one. This is the lowest such rule, and the earlier one.
+    /// 11: a rule has the words of an earlier one, whatever their actions. This is the lowest such rule, and the
+    /// earlier one.
     RuleHasTwin { rule: u64, earlier: u64 },
 }
 

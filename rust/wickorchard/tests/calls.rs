@@ -1,14 +1,14 @@
 //! Each call on the worked policy and on what it refuses, beside the same call of the oracle.
 
 use oracle::Answer;
-use wickorchard::calls::{self, Built, Counted, Figures, Part, Tree, TreeCounts};
+use wickorchard::calls::{self, Built, Counted, Figures, ListRead, Part, Tree, TreeCounts};
 use wickorchard::limits::MOST_RULES;
-use wickorchard::{Header, Policy, Refusal};
+use wickorchard::{Header, Kind, Match, Policy, Refusal};
 
 const RULES_FILE: &[u8] = include_bytes!("../../../examples/worked/rules.txt");
 const TREE_FILE: &[u8] = include_bytes!("../../../examples/worked/tree.txt");
 
-const EVERYTHING: [u32; 10] = [0, 0, 0, 0, 0, 65_535, 0, 65_535, 0, 255];
+const EVERYTHING: [u32; 11] = [0, 0, 0, 0, 0, 65_535, 0, 65_535, 0, 255, 0];
 const NODES: [u32; 15] = [0, 167_772_159, 2, 5, 0, 1, 0, 184_549_375, 4, 5, 1, 3, 5, 4, 1];
 const POOL: [u32; 5] = [2, 0, 1, 2, 2];
 const HEADERS: [[u32; 5]; 5] = [
@@ -20,22 +20,29 @@ const HEADERS: [[u32; 5]; 5] = [
 ];
 
 fn rules() -> Vec<u32> {
-    let first = [0x0A00_0000, 8, 0, 0, 0, 65_535, 80, 80, 6, 6];
-    let second = [0x0A01_0000, 16, 0, 0, 0, 65_535, 0, 1_023, 6, 6];
-    [first, second, EVERYTHING].concat()
+    with_actions([0, 0, 0])
+}
+
+/// The worked policy with these actions.
+fn with_actions([a, b, c]: [u32; 3]) -> Vec<u32> {
+    let first = [0x0A00_0000, 8, 0, 0, 0, 65_535, 80, 80, 6, 6, a];
+    let second = [0x0A01_0000, 16, 0, 0, 0, 65_535, 0, 1_023, 6, 6, b];
+    [&first[..], &second, &EVERYTHING[..10], &[c]].concat()
 }
 
 /// So many rules. They differ in the ends of the source port, and all match every legal header of `HEADERS`.
 fn wide_rules(count: u32) -> Vec<u32> {
-    (0..count).flat_map(|number| [0, 0, 0, 0, number, 65_535 - number, 0, 65_535, 0, 255]).collect()
+    (0..count).flat_map(|number| [0, 0, 0, 0, number, 65_535 - number, 0, 65_535, 0, 255, 0]).collect()
 }
 
-/// Lists that are good, not whole, too long, not good, and with twins.
+/// Lists that are good, not whole, too long, not good, and with twins; without actions and with them, good and not.
 fn lists() -> Vec<Vec<u32>> {
     let mut bad = rules();
-    bad[14] = 65_536;
-    let twins = [&rules()[..], &rules()[10..20]].concat();
-    vec![rules(), Vec::new(), rules()[1..].to_vec(), EVERYTHING.repeat(513), bad, twins]
+    bad[15] = 65_536;
+    let twins = |action| [&rules()[..], &rules()[11..21], &[action]].concat();
+    let mut lists = vec![rules(), Vec::new(), rules()[1..].to_vec(), EVERYTHING.repeat(513), bad, twins(0), twins(9)];
+    lists.extend([[1, 2, 3], [255, 0, 0], [0, 0, 7], [0, 256, 0], [0, 3, u32::MAX]].map(with_actions));
+    lists
 }
 
 /// Trees that are right for the worked policy, and that are refused with 5, 6, 7 and 8.
@@ -58,11 +65,22 @@ fn trees() -> Vec<(Vec<u32>, Vec<u32>)> {
 
 /// The call's answer is the oracle's: refused with the same words, or completed with the same values.
 fn expect<T>(ours: Result<T, Refusal>, oracle: Answer, values: impl FnOnce(T) -> [u64; 3]) {
+    let with_0 = |[a, b, c]: [u64; 3]| [a, b, c, 0];
+    expect_four(ours, oracle, |done| with_0(values(done)));
+}
+
+/// The same for a call that gives four values.
+fn expect_four<T>(ours: Result<T, Refusal>, oracle: Answer, values: impl FnOnce(T) -> [u64; 4]) {
     let ours = match ours {
         Ok(done) => ((0, 0, 0), values(done)),
-        Err(refusal) => (refusal.number_place_extra(), [0; 3]),
+        Err(refusal) => (refusal.number_place_extra(), [0; 4]),
     };
-    assert_eq!(ours, ((oracle.number, oracle.place, oracle.extra), [oracle.a, oracle.b, oracle.c]));
+    assert_eq!(ours, ((oracle.number, oracle.place, oracle.extra), [oracle.a, oracle.b, oracle.c, oracle.d]));
+}
+
+/// A first-match's first value and its last.
+fn first_values(first: Option<Match>) -> (u64, u64) {
+    first.map_or((0, 0), |Match { rule, action }| (u64::from(rule) + 1, u64::from(action)))
 }
 
 #[test]
@@ -71,9 +89,12 @@ fn the_list_calls() {
         expect(calls::rule_check(&rules), oracle::rule_check(&rules), |count| [count as u64, 0, 0]);
         for header in HEADERS {
             for header in [&header[..], &header[..4]] {
-                let in_one_word = |first: Option<u32>| [first.map_or(0, |rule| u64::from(rule) + 1), 0, 0];
-                expect(calls::line_first(&rules, header), oracle::line_first(&rules, header), in_one_word);
-                expect(calls::scan_first(&rules, header), oracle::scan_first(&rules, header), in_one_word);
+                let values = |first: Option<Match>| {
+                    let (rule, action) = first_values(first);
+                    [rule, 0, 0, action]
+                };
+                expect_four(calls::line_first(&rules, header), oracle::line_first(&rules, header), values);
+                expect_four(calls::scan_first(&rules, header), oracle::scan_first(&rules, header), values);
                 for room in [0, 2, 3, 9, 513] {
                     let [mut out, mut wanted] = [vec![7; room], vec![7; room]];
                     let answer = oracle::line_all(&rules, header, &mut wanted);
@@ -105,8 +126,9 @@ fn the_tree_calls() {
             });
             for header in &HEADERS {
                 let answer = oracle::tree_first(&rules, nodes, pool, header);
-                expect(calls::tree_first(&rules, tree, header), answer, |Counted { found, visited, compared }| {
-                    [found.map_or(0, |rule| u64::from(rule) + 1), visited, compared]
+                expect_four(calls::tree_first(&rules, tree, header), answer, |Counted { found, visited, compared }| {
+                    let (rule, action) = first_values(found);
+                    [rule, visited, compared, action]
                 });
                 for room in [0, 2, 3, 9] {
                     let [mut out, mut wanted] = [vec![7; room], vec![7; room]];
@@ -124,7 +146,7 @@ fn the_tree_calls() {
 
 /// Rules for so many single ports, from 0 on, and one for everything.
 fn ports(count: u32) -> Vec<u32> {
-    let mut rules: Vec<u32> = (0..count).flat_map(|port| [0, 0, 0, 0, 0, 65_535, port, port, 6, 6]).collect();
+    let mut rules: Vec<u32> = (0..count).flat_map(|port| [0, 0, 0, 0, 0, 65_535, port, port, 6, 6, port % 7]).collect();
     rules.extend(EVERYTHING);
     rules
 }
@@ -218,12 +240,12 @@ fn a_build_that_is_kept_as_a_file_ends_in_the_tree_of_one_never_stopped() {
 fn a_policy_that_is_compiled_answers_as_its_list() {
     let mut text = vec![0; 65_536];
     // A leaf is met by four sources and four destinations at most, so the pool would be over its limit.
-    let source = |strip: u32| [strip << 24, 8, 0, 0, 0, 65_535, 0, 65_535, 0, 255];
-    let destination = |strip: u32| [0, 0, strip << 24, 8, 0, 65_535, 0, 65_535, 0, 255];
+    let source = |strip: u32| [strip << 24, 8, 0, 0, 0, 65_535, 0, 65_535, 0, 255, strip];
+    let destination = |strip: u32| [0, 0, strip << 24, 8, 0, 65_535, 0, 65_535, 0, 255, 255 - strip];
     let grid = (0..256).flat_map(|strip| [source(strip), destination(strip)]).flatten().collect();
     let over = Err(Refusal::PoolShort { needed: 4_104 });
     for (rules, compiled) in [(rules(), Ok(())), (ports(40), Ok(())), (wide_rules(60), Ok(())), (grid, over)] {
-        let file = calls::rules_write(&rules, &mut text).expect("the list is good");
+        let file = calls::acl_write(&rules, &mut text).expect("the list is good");
         let list = Policy::read(file).expect("the list is good");
         let mut policy = list.clone();
         assert_eq!(policy.compile(), compiled);
@@ -244,6 +266,9 @@ fn the_writers() {
             let answer = oracle::rules_write(&rules, &mut wanted);
             expect(calls::rules_write(&rules, &mut text), answer, |bytes| [bytes.len() as u64, 0, 0]);
             assert_eq!(text, wanted);
+            let answer = oracle::acl_write(&rules, &mut wanted);
+            expect(calls::acl_write(&rules, &mut text), answer, |bytes| [bytes.len() as u64, 0, 0]);
+            assert_eq!(text, wanted);
         }
         for (nodes, pool) in &trees() {
             for rule_count in [3, 2, 513, u64::MAX] {
@@ -263,11 +288,19 @@ fn the_writers() {
 #[test]
 fn the_readers() {
     let twins = String::from_utf8_lossy(RULES_FILE).replace("10.0.0.0/8", "10.1.0.0/16").replace("80\t80", "0\t1023");
-    for text in [RULES_FILE, &RULES_FILE[1..], &RULES_FILE[..RULES_FILE.len() - 1], TREE_FILE, b"", twins.as_bytes()] {
-        for room in [0, 29, 30, 40] {
+    let [mut acl, mut no_rules] = [vec![0; 300], vec![0; 300]];
+    let acl = calls::acl_write(&with_actions([1, 255, 0]), &mut acl).expect("the list is good");
+    let no_rules = calls::acl_write(&[], &mut no_rules).expect("the list is good");
+    let cut = |text: &'static [u8]| [text, &text[1..], &text[..text.len() - 1]];
+    let mut texts = [&cut(RULES_FILE)[..], &[TREE_FILE, b"", twins.as_bytes()]].concat();
+    texts.extend([acl, no_rules, &acl[..acl.len() - 1], &acl[1..]]);
+    for text in texts {
+        for room in [0, 30, 32, 33, 40] {
             let [mut words, mut wanted] = [vec![7; room], vec![7; room]];
             let answer = oracle::rules_read(text, &mut wanted);
-            expect(calls::rules_read(text, &mut words), answer, |count| [count as u64, 0, 0]);
+            expect(calls::rules_read(text, &mut words), answer, |ListRead { rules, kind }| {
+                [rules as u64, u64::from(kind == Kind::Acl), 0]
+            });
             assert_eq!(words, wanted);
         }
     }
@@ -301,12 +334,30 @@ fn a_policy_answers_by_its_list_until_a_tree_is_accepted() {
         for (words, list) in [(HEADERS[0], &[0, 1, 2][..]), (HEADERS[1], &[1, 2]), (HEADERS[2], &[2])] {
             let header = Header::try_from(words).expect("the header is legal");
             assert_eq!(policy.all(&header, &mut [7; MOST_RULES]), list);
-            assert_eq!(policy.first(&header), Some(list[0]));
+            assert_eq!(policy.first(&header), Some(Match { rule: list[0], action: 0 }));
         }
     }
     let none = Policy::read(b"rules\t0\nend\t1\n").expect("an empty list is good");
     let header = Header::try_from(HEADERS[0]).expect("the header is legal");
     assert_eq!((none.all(&header, &mut [7; MOST_RULES]), none.first(&header)), (&[][..], None));
+}
+
+#[test]
+fn a_policy_with_actions_gives_them() {
+    let mut text = [0; 300];
+    let acl = calls::acl_write(&with_actions([1, 255, 0]), &mut text).expect("the list is good");
+    let mut policy = Policy::read(acl).expect("the list is good");
+    let kinds = [Policy::read(RULES_FILE), Policy::read(b"acl\t0\nend\t1\n")].map(|policy| policy.unwrap().kind());
+    assert_eq!((policy.kind(), kinds), (Kind::Acl, [Kind::Rules, Kind::Acl]));
+    for by_tree in [false, true] {
+        for (words, rule, action) in [(HEADERS[0], 0, 1), (HEADERS[1], 1, 255), (HEADERS[2], 2, 0)] {
+            let header = Header::try_from(words).expect("the header is legal");
+            assert_eq!(policy.first(&header), Some(Match { rule, action }), "by the tree: {by_tree}");
+        }
+        assert_eq!(policy.read_tree(TREE_FILE), Ok(Figures { cuts: 2, longest_leaf: 3 }));
+    }
+    let refusal = calls::rules_write(&with_actions([0, 255, 1]), &mut text).expect_err("rule 1 has an action");
+    assert_eq!(refusal, Refusal::RuleNotGood { rule: 1 });
 }
 
 #[test]
@@ -322,19 +373,21 @@ fn a_list_of_512_rules_that_all_match() {
     assert_eq!(policy.all(&header, &mut [7; MOST_RULES]), numbers);
     assert_eq!(policy.read_tree(tree_file), Ok(Figures { cuts: 0, longest_leaf: 512 }));
     assert_eq!(policy.all(&header, &mut [7; MOST_RULES]), numbers);
-    assert_eq!(policy.first(&header), Some(0));
+    assert_eq!(policy.first(&header), Some(Match { rule: 0, action: 0 }));
 }
 
 #[test]
 fn what_the_programmers_page_says() {
     let policy = Policy::read(RULES_FILE).expect("the list is good");
-    let first =
-        |source: [u8; 4]| policy.first(&Header { source: source.into(), ..Header::try_from(HEADERS[0]).unwrap() });
+    let first = |source: [u8; 4]| {
+        let header = Header { source: source.into(), ..Header::try_from(HEADERS[0]).unwrap() };
+        policy.first(&header).map(|found| found.rule)
+    };
     assert_eq!((first([10, 1, 2, 3]), first([3, 2, 1, 10])), (Some(0), Some(2)));
     assert_eq!(HEADERS[0][0].swap_bytes(), u32::from_be_bytes([3, 2, 1, 10]));
 
     let mut rules = rules();
-    rules[17] = 70_000;
+    rules[18] = 70_000;
     let refusal = calls::rule_check(&rules).expect_err("rule 1 is not good");
     assert_eq!(refusal, Refusal::RuleNotGood { rule: 1 });
     assert_eq!(refusal.to_string(), "refused with 2, place 1, extra 0");

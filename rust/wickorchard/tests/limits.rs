@@ -25,12 +25,14 @@ fn in_c(name: &str) -> u64 {
 fn the_limits_are_those_of_the_c_header() {
     for (name, ours) in [
         ("RULE_WORDS", limits::RULE_WORDS),
+        ("ACTION", limits::ACTION),
         ("HEADER_WORDS", limits::HEADER_WORDS),
         ("NODE_WORDS", limits::NODE_WORDS),
         ("LEAF", limits::LEAF as usize),
         ("ADDRESS_BITS", limits::ADDRESS_BITS as usize),
         ("LARGEST_PORT", limits::LARGEST_PORT as usize),
         ("LARGEST_PROTOCOL", limits::LARGEST_PROTOCOL as usize),
+        ("LARGEST_ACTION", limits::LARGEST_ACTION as usize),
         ("MOST_RULES", limits::MOST_RULES),
         ("MOST_RULE_WORDS", limits::MOST_RULE_WORDS),
         ("MOST_NODES", limits::MOST_NODES),
@@ -47,9 +49,11 @@ fn the_limits_are_those_of_the_c_header() {
 fn the_limits_are_those_of_the_proved_code() {
     for (text, words, ours) in [
         (RULES, "RULE_WORDS: usize = ", limits::RULE_WORDS),
+        (RULES, "MATCH_WORDS: usize = ", limits::ACTION),
         (RULES, "MOST_RULES: usize = ", limits::MOST_RULES),
         (RULES, "LARGEST_PORT: u32 = ", limits::LARGEST_PORT as usize),
         (RULES, "LARGEST_PROTOCOL: u32 = ", limits::LARGEST_PROTOCOL as usize),
+        (RULES, "LARGEST_ACTION: u32 = ", limits::LARGEST_ACTION as usize),
         (FIELDS, "FIELDS: usize = ", limits::HEADER_WORDS),
         (FIELDS, "FIELDS: usize = ", limits::LEAF as usize),
         (PREFIX, "ADDRESS_BITS: u32 = ", limits::ADDRESS_BITS as usize),

@@ -1,5 +1,6 @@
 //! The file calls: a list, a tree and a part, written as texts and read from them.
 
+use oracle::rule_file::{list_text, Kind};
 use oracle::Answer;
 
 use super::{Agreed, Bench, Wanted};
@@ -16,15 +17,23 @@ const SPARE_WORDS: [usize; 2] = [4, 2];
 /// The bytes lent to a writer that refuses for another reason.
 const UNUSED_BYTES: usize = 64;
 
+/// A writer of a list.
+type ListWriter = fn(&[u32], &mut [u8]) -> Answer;
+
 impl Bench {
-    pub fn rules_write(&mut self, case: &str, rules: &[u32], room: usize) -> Agreed {
+    /// Writes the list as a file of this kind.
+    pub fn list_write(&mut self, case: &str, kind: Kind, rules: &[u32], room: usize) -> Agreed {
+        let (call, oracle): (Call, ListWriter) = match kind {
+            Kind::Rules => (Call::RulesWrite, oracle::rules_write),
+            Kind::Acl => (Call::AclWrite, oracle::acl_write),
+        };
         self.arena.take_back();
         let lent_rules = self.arena.lend("rules", rules);
         let mut text = unwritten_text(room);
         let lent_text = self.arena.lend_text(&text);
-        let answer = oracle::rules_write(rules, &mut text);
+        let answer = oracle(rules, &mut text);
         self.arena.want_text(lent_text, &text);
-        let inputs = Inputs { rules: Some(rules), rooms: &[room], ..Inputs::of(Call::RulesWrite, case) };
+        let inputs = Inputs { rules: Some(rules), rooms: &[room], ..Inputs::of(call, case) };
         self.compare(inputs, &[lent_rules, lent_text], answer)
     }
 
@@ -94,10 +103,11 @@ impl Bench {
         self.compare(inputs, &[lent_text, nodes, pool], answer)
     }
 
-    /// Writes the list with ample room.
+    /// Writes the list as a file of each kind, with ample room. The answer for the kind with actions is given back.
     pub fn write_rules(&mut self, case: &str, rules: &[u32]) -> Agreed {
-        let needed = oracle::rule_file::rules_text(rules).map_or(UNUSED_BYTES, |text| text.len());
-        self.rules_write(case, rules, needed + SPARE_BYTES)
+        let needed = list_text(Kind::Acl, rules).map_or(UNUSED_BYTES, |text| text.len());
+        self.list_write(case, Kind::Rules, rules, needed + SPARE_BYTES)?;
+        self.list_write(case, Kind::Acl, rules, needed + SPARE_BYTES)
     }
 
     /// Writes the tree, for the number of rules that the policy has, with ample room.

@@ -72,9 +72,9 @@ pub fn many_nodes(strips: u32, ports: u32) -> Vec<Rule> {
     let mut rules: Vec<Rule> = (0..strips).map(|strip| with(0, [(2 * strip + 1) << 20, 12])).collect();
     rules.extend((0..9).map(|number| {
         let more = |bit: u32| number >> bit & 1;
-        [0, 0, 76, 32 - more(3), 7, 7 + more(0), 7, 7 + more(1), 7, 7 + more(2)]
+        [0, 0, 76, 32 - more(3), 7, 7 + more(0), 7, 7 + more(1), 7, 7 + more(2), 0]
     }));
-    rules.extend((0..ports).map(|port| [u32::MAX, 32, 0, 0, 2 * port + 1, 2 * port + 1, 0, 65_535, 0, 255]));
+    rules.extend((0..ports).map(|port| [u32::MAX, 32, 0, 0, 2 * port + 1, 2 * port + 1, 0, 65_535, 0, 255, 0]));
     rules
 }
 

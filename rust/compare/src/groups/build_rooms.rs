@@ -1,5 +1,7 @@
 //! Limits of the room that is lent to the compiler, and the order of its refusals: the list is judged first.
 
+use oracle::rules::RULE_WORDS;
+
 use crate::bench::{Bench, Run};
 use crate::damages::damaged_rules;
 use crate::draws::Draws;
@@ -134,7 +136,7 @@ fn bad_lists(bench: &mut Bench) -> Run {
             let room = draws.pick(&rooms);
             expect(bench, &case, &rules.concat(), room, (2, place))?;
             // Another bad rule, and the lower one is named.
-            rules[other] = [u32::MAX; 10];
+            rules[other] = [u32::MAX; RULE_WORDS];
             expect(bench, &case, &rules.concat(), room, (2, place.min(other)))?;
         }
         for &room in &rooms {

@@ -1,5 +1,7 @@
 //! Damage drawn at random: flipped bits of good inputs, words near the limits, and words of no meaning.
 
+use oracle::rules::RULE_WORDS;
+
 use crate::bench::{Bench, Run};
 use crate::draws::Draws;
 use crate::headers;
@@ -95,8 +97,8 @@ fn drawn_words(bench: &mut Bench) -> Run {
     for seed in 450_000..460_000 {
         let mut draws = Draws::seeded(seed);
         let length = match draws.below(4) {
-            0 => 10 * draws.below(8),
-            1 => draws.below(5_300),
+            0 => RULE_WORDS * draws.below(8),
+            1 => draws.below(5_800),
             _ => draws.below(80),
         };
         let words: Vec<u32> = (0..length).map(|_| any_word(&mut draws)).collect();

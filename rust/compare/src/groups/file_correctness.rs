@@ -1,11 +1,13 @@
 //! Correctness of files: what is written reads back, with each number of digits and at each size.
 
+use oracle::rule_file::Kind;
+use oracle::rules::RULE_WORDS;
 use oracle::Answer;
 
 use crate::bench::{Bench, Run};
 use crate::draws::Draws;
 use crate::lists::{self, Manner, Rule, EVERYTHING, MANNERS};
-use crate::texts::{self, Text};
+use crate::texts::{self, kind_of, Text};
 use crate::trees::{self, Policy};
 
 const PURPOSE: &str = "correctness";
@@ -121,15 +123,19 @@ fn with_octet(draws: &mut Draws, place: usize, octet: u8) -> Rule {
     rule
 }
 
-/// The list is written, and its text is read back as the same words.
+/// The list is written as each kind that can hold its actions, and each text is read back as the same words.
 fn round_rules(bench: &mut Bench, case: &str, words: &[u32]) -> Run {
-    let text = Text::of_rules(words);
-    let written = bench.write_rules(case, words)?;
-    let counts = Answer::completed((words.len() / 10) as u64, 0, 0);
-    read_back(bench, case, &text, written, counts)?;
-    let mut back = vec![0; words.len()];
-    oracle::rules_read(&text.bytes, &mut back);
-    assert_eq!(back, words, "the oracle: {case}");
+    bench.write_rules(case, words)?;
+    let kinds = if kind_of(words) == Kind::Acl { &[Kind::Acl][..] } else { &[Kind::Rules, Kind::Acl] };
+    for &kind in kinds {
+        let text = Text::of_list(kind, words);
+        let written = bench.list_write(case, kind, words, text.bytes.len())?;
+        let counts = Answer::completed((words.len() / RULE_WORDS) as u64, u64::from(kind == Kind::Acl), 0);
+        read_back(bench, case, &text, written, counts)?;
+        let mut back = vec![0; words.len()];
+        oracle::rules_read(&text.bytes, &mut back);
+        assert_eq!(back, words, "the oracle: {case}");
+    }
     Ok(())
 }
 

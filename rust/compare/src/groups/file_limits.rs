@@ -1,9 +1,11 @@
 //! Limits of files: counts on both sides of what is allowed, the largest files, and texts of any length.
 
+use oracle::rule_file::Kind;
+
 use crate::bench::{Bench, Run};
 use crate::draws::Draws;
-use crate::groups::tree_limits::largest_tree;
-use crate::lists::{self, Manner};
+use crate::groups::tree_limits::{largest_tree, strips};
+use crate::lists::{self, acting, Manner, Rule};
 use crate::text_damages::{afters, any_damage};
 use crate::texts::{self, File, Text};
 use crate::trees::{self, Policy};
@@ -28,6 +30,7 @@ fn first_lines(bench: &mut Bench) -> Run {
     let [rules, tree] = texts::worked();
     for a in COUNTS {
         first_line(bench, &rules, format!("rules\t{a}\n"), a <= 512)?;
+        first_line(bench, &rules, format!("acl\t{a}\n"), a <= 512)?;
         for b in COUNTS {
             for c in COUNTS {
                 let is_right = a <= 512 && (1..=2_047).contains(&b) && c <= 4_096;
@@ -46,24 +49,33 @@ fn first_line(bench: &mut Bench, text: &Text, line: String, is_right: bool) -> R
 
 fn rule_counts(bench: &mut Bench) -> Run {
     let rules = lists::good_list(&mut Draws::seeded(1_200_001), 514, Manner::Mixed).rules;
-    for count in [0_usize, 1, 2, 510, 511, 512, 513, 514] {
-        for first in [count, count + 1, count.saturating_sub(1)] {
-            let text = texts::rules_file(first, &rules[..count]);
-            let case = format!("seed 1200001, {count} rules, {first} in the first line");
-            let answer = bench.read_in_rooms(&case, &text)?;
-            let wanted = if first > 512 {
-                (9, 1)
-            } else if first == count {
-                (0, 0)
-            } else {
-                // An end line where a rule is meant, or the other way round.
-                (9, first.min(count) + 2)
-            };
-            assert_eq!((answer.number, answer.place as usize), wanted, "the oracle: {case}");
-            for room in [text.needed[0], text.needed[0].saturating_sub(1)] {
-                bench.read(&case, &text, [room, 0])?;
+    for (kind, action) in [(Kind::Rules, 0), (Kind::Acl, 255)] {
+        let rules: Vec<Rule> = rules.iter().map(|&rule| acting(rule, action)).collect();
+        for count in [0_usize, 1, 2, 510, 511, 512, 513, 514] {
+            for first in [count, count + 1, count.saturating_sub(1)] {
+                let text = texts::list_file(kind, first, &rules[..count]);
+                let case = format!("seed 1200001, {count} rules in a {kind:?} file, {first} in the first line");
+                rule_count(bench, &case, &text, count, first)?;
             }
         }
+    }
+    Ok(())
+}
+
+/// Reads a file of so many rules, whose first line has this number.
+fn rule_count(bench: &mut Bench, case: &str, text: &Text, count: usize, first: usize) -> Run {
+    let answer = bench.read_in_rooms(case, text)?;
+    let wanted = if first > 512 {
+        (9, 1)
+    } else if first == count {
+        (0, 0)
+    } else {
+        // An end line where a rule is meant, or the other way round.
+        (9, first.min(count) + 2)
+    };
+    assert_eq!((answer.number, answer.place as usize), wanted, "the oracle: {case}");
+    for room in [text.needed[0], text.needed[0].saturating_sub(1)] {
+        bench.read(case, text, [room, 0])?;
     }
     Ok(())
 }
@@ -104,11 +116,14 @@ fn tree_counts(bench: &mut Bench) -> Run {
     Ok(())
 }
 
-/// 512 rules; 2,047 nodes and 4,096 pool words. Both are written and read, and read with damage.
+/// 512 rules, without actions and with the longest ones; 2,047 nodes and 4,096 pool words. All are written and read,
+/// and read with damage.
 fn largest_files(bench: &mut Bench) -> Run {
     let largest = largest_tree().policy;
-    let texts = [Text::of_rules(&largest.rules), Text::of_tree(&largest)];
+    let longest_actions: Vec<u32> = strips().into_iter().flat_map(|rule| acting(rule, 255)).collect();
+    let texts = [Text::of_rules(&largest.rules), Text::of_tree(&largest), Text::of_list(Kind::Acl, &longest_actions)];
     bench.write_rules("the largest list", &largest.rules)?;
+    bench.write_rules("the largest list with actions", &longest_actions)?;
     bench.write_tree("the largest tree", &largest)?;
     for text in &texts {
         let answer = bench.read_in_rooms("the largest file", text)?;
@@ -118,16 +133,17 @@ fn largest_files(bench: &mut Bench) -> Run {
             bench.read("the largest file", text, rooms)?;
         }
         let bytes = text.bytes.len();
-        bench.rules_write("the largest list", &largest.rules, bytes - 1)?;
+        bench.list_write("the largest list", Kind::Rules, &largest.rules, bytes - 1)?;
+        bench.list_write("the largest list with actions", Kind::Acl, &longest_actions, bytes - 1)?;
         bench.tree_write("the largest tree", 512, &largest, bytes - 1)?;
     }
     damaged_largest(bench, &texts)
 }
 
-fn damaged_largest(bench: &mut Bench, texts: &[Text; 2]) -> Run {
+fn damaged_largest(bench: &mut Bench, texts: &[Text; 3]) -> Run {
     for seed in 1_210_000..1_210_120 {
         let mut draws = Draws::seeded(seed);
-        let text = &texts[seed as usize % 2];
+        let text = &texts[seed as usize % 3];
         let damaged = any_damage(text, &mut draws);
         bench.read_in_rooms(&format!("seed {seed}, the largest file, {}", damaged.kind), &damaged.text)?;
         let cut = text.with(text.bytes[..draws.below(text.bytes.len())].to_vec());

@@ -24,7 +24,8 @@ fn writers(bench: &mut Bench) -> Run {
         policies.push((format!("seed {seed}, spelt tree for {size} rules"), policy));
     }
     for (case, policy) in &policies {
-        every_room(&Text::of_rules(&policy.rules), |room| bench.rules_write(case, &policy.rules, room))?;
+        let kind = texts::kind_of(&policy.rules);
+        every_room(&Text::of_rules(&policy.rules), |room| bench.list_write(case, kind, &policy.rules, room))?;
         every_room(&Text::of_tree(policy), |room| bench.tree_write(case, policy.rule_count(), policy, room))?;
     }
     Ok(())

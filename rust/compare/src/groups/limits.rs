@@ -1,5 +1,6 @@
 //! Limits: list sizes, prefix lengths, word counts and header lengths on both sides of what is allowed.
 
+use oracle::rules::RULE_WORDS;
 use oracle::Answer;
 
 use crate::bench::{Bench, Run};
@@ -14,8 +15,8 @@ pub fn run(bench: &mut Bench) -> Run {
     bench.group(PURPOSE, "lists of 0, 1, 511, 512, 513 and more rules", list_sizes)?;
     bench.group(PURPOSE, "prefix lengths 0 and 32 in both addresses", outer_lengths)?;
     bench.group(PURPOSE, "address zero at lengths 0 to 70 and far over, in lists and in files", zero_addresses)?;
-    bench.group(PURPOSE, "rule words not a multiple of ten", broken_tens)?;
-    bench.group(PURPOSE, "rule words over 5,120", too_many_words)?;
+    bench.group(PURPOSE, "rule words not a multiple of eleven", broken_rules)?;
+    bench.group(PURPOSE, "rule words over 5,632", too_many_words)?;
     bench.group(PURPOSE, "header lengths 0 to 12", header_lengths)
 }
 
@@ -89,11 +90,11 @@ fn zero_addresses(bench: &mut Bench) -> Run {
 }
 
 /// Every remainder, in lists of some sizes: words are taken from the end of a good list.
-fn broken_tens(bench: &mut Bench) -> Run {
+fn broken_rules(bench: &mut Bench) -> Run {
     let mut draws = Draws::seeded(200_002);
     for size in [1, 2, 3, 50, 256, 511, 512] {
         let words = lists::good_list(&mut draws, size, Manner::Nested).words();
-        for missing in 1..10 {
+        for missing in 1..RULE_WORDS {
             let case = format!("seed 200002, list of {size} without its last {missing} words");
             let answer = bench.all_calls(&case, &words[..words.len() - missing], &WORKED)?;
             expect_number(answer, 1);
@@ -102,21 +103,21 @@ fn broken_tens(bench: &mut Bench) -> Run {
     Ok(())
 }
 
-/// Over the limit by each count up to 20 words, multiples of ten among them.
+/// Over the limit by each count up to 22 words, multiples of eleven among them.
 fn too_many_words(bench: &mut Bench) -> Run {
     let mut draws = Draws::seeded(200_003);
     for manner in MANNERS {
         let words = lists::good_list(&mut draws, 514, manner).words();
-        let most = bench.all_calls("seed 200003, 5,120 words", &words[..5_120], &WORKED)?;
+        let most = bench.all_calls("seed 200003, 5,632 words", &words[..5_632], &WORKED)?;
         expect_number(most, 0);
-        for over in 1..=20 {
-            let case = format!("seed 200003, {over} words over 5,120");
-            let answer = bench.all_calls(&case, &words[..5_120 + over], &WORKED)?;
+        for over in 1..=22 {
+            let case = format!("seed 200003, {over} words over 5,632");
+            let answer = bench.all_calls(&case, &words[..5_632 + over], &WORKED)?;
             expect_number(answer, 1);
         }
     }
-    for words in [6_000, 8_190, 8_192, 8_200, 10_000, 10_240] {
-        let list = EVERYTHING.repeat(words / 10 + 1);
+    for words in [6_006, 8_184, 8_192, 8_195, 10_010, 11_264] {
+        let list = EVERYTHING.repeat(words / RULE_WORDS + 1);
         let answer = bench.all_calls(&format!("{words} words of everything"), &list[..words], &WORKED)?;
         expect_number(answer, 1);
     }

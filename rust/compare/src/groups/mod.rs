@@ -1,5 +1,9 @@
 //! The groups of inputs, by purpose: correctness, limits and damage.
 
+mod acl_cases;
+mod acl_files;
+mod acl_writers;
+mod actions;
 mod build_cases;
 mod build_drawn;
 mod build_limits;
@@ -16,6 +20,7 @@ mod part_damage;
 mod part_files;
 mod part_order;
 mod part_others;
+mod program_acl;
 mod program_drawn;
 mod program_files;
 mod program_input;
@@ -42,7 +47,7 @@ use crate::bench::{Bench, Run};
 use crate::trials::Trials;
 
 /// Compares every group in turn: lists, then trees, then the compiler, then the compiler that stops, then files, then
-/// twins, which all of them judge.
+/// twins, which all of them judge, then actions and the files that hold them.
 pub fn run(bench: &mut Bench) -> Run {
     correctness::run(bench)?;
     limits::run(bench)?;
@@ -77,12 +82,17 @@ pub fn run(bench: &mut Bench) -> Run {
     text_cases::run(bench)?;
     text_drawn::run(bench)?;
     twins::run(bench)?;
-    twin_orders::run(bench)
+    twin_orders::run(bench)?;
+    actions::run(bench)?;
+    acl_writers::run(bench)?;
+    acl_files::run(bench)?;
+    acl_cases::run(bench)
 }
 
 /// Compares every group of the program's runs in turn.
 pub fn run_program(trials: &mut Trials) -> Run {
     program_files::run(trials)?;
     program_input::run(trials)?;
-    program_drawn::run(trials)
+    program_drawn::run(trials)?;
+    program_acl::run(trials)
 }

@@ -1,5 +1,8 @@
 //! The order of refusals: inputs with several faults at once get the number that comes first in the order.
 
+use oracle::rule_file::Kind;
+use oracle::rules::RULE_WORDS;
+
 use crate::bench::{Bench, Run};
 use crate::damages::damaged_rules;
 use crate::draws::Draws;
@@ -41,15 +44,17 @@ fn every_set(bench: &mut Bench) -> Run {
     Ok(())
 }
 
-/// Rule check looks for faults 1, 2 and 11 only, first-match for all but 4, all-match for all five, and the writer for
-/// all but 3, which it cannot have.
+/// Rule check looks for faults 1, 2 and 11 only, first-match for all but 4, all-match for all five, and the writer
+/// with actions for all but 3, which it cannot have.
 fn compare(bench: &mut Bench, seed: u64, size: usize, faults: Faults, form: usize) -> Run {
     let Input { words, header, room } = input(seed, size, faults, form);
     let case = format!("seed {seed}, list of {size}, {faults:?}, form {form}");
     let check = bench.rule_check(&case, &words)?;
     let first = bench.line_first(&case, &words, &header)?;
     let all = bench.line_all(&case, &words, &header, room)?;
-    let writer = bench.rules_write(&case, &words, if faults.has(4) { 12 * size } else { 100 * size })?;
+    let text_room = if faults.has(4) { 12 * size } else { 100 * size };
+    let writer = bench.list_write(&case, Kind::Acl, &words, text_room)?;
+    bench.list_write(&case, Kind::Rules, &words, text_room)?;
     assert_eq!(check.number, faults.first_of(&[1, 2, 11]), "the oracle: {case}");
     assert_eq!(first.number, faults.first_of(&[1, 2, 11, 3]), "the oracle: {case}");
     assert_eq!(all.number, faults.first_of(&ORDER), "the oracle: {case}");
@@ -103,7 +108,7 @@ fn break_rule(rules: &mut [Rule], draws: &mut Draws) {
 /// Makes the words no list: a word too few, a word too many, 513 rules, or these and a word.
 fn break_length(words: &mut Vec<u32>, form: usize) {
     if form >= 2 {
-        words.extend(EVERYTHING.repeat(513 - words.len() / 10));
+        words.extend(EVERYTHING.repeat(513 - words.len() / RULE_WORDS));
     }
     match form {
         0 => words.truncate(words.len() - 1),

@@ -1,9 +1,12 @@
 //! The order in which going on tells faults: those of the list, of the part's lengths, the told number of rules, the
 //! part's nodes and leaves, and the room.
 
+use oracle::rules::RULE_WORDS;
+
 use crate::bench::{Bench, Run};
 use crate::draws::Draws;
 use crate::groups::build_cases::AMPLE;
+use crate::lists::ACTION;
 use crate::part_damages::{nodes_of, with_entries};
 use crate::stops::small_trees;
 use crate::trees::Policy;
@@ -74,13 +77,13 @@ fn every_set(bench: &mut Bench) -> Run {
                 }
             }
             if has(2) {
-                let last = part.rules.len() - 10;
-                let first = part.rules[..10].to_vec();
+                let last = part.rules.len() - RULE_WORDS;
+                let first = part.rules[..RULE_WORDS].to_vec();
                 part.rules[last..].copy_from_slice(&first);
-                wanted.push((11, last / 10, 0));
+                wanted.push((11, last / RULE_WORDS, 0));
             }
             if has(1) {
-                part.rules[11] = 33;
+                part.rules[RULE_WORDS + 1] = 33;
                 wanted.push((2, 1, 0));
             }
             if has(0) {
@@ -133,7 +136,7 @@ const CASES: [Case; 26] = [
 fn chosen(bench: &mut Bench) -> Run {
     let rule = |number: u32| {
         let (port, protocol) = (10 * (number % 9 + 1), 1 + number / 9);
-        [0, 0, 0, 0, 0, 65_535, port, port, protocol, protocol]
+        [0, 0, 0, 0, 0, 65_535, port, port, protocol, protocol, 0]
     };
     let rules: Vec<u32> = (0..17).flat_map(rule).collect();
     for (case, nodes, pool, wanted) in CASES {
@@ -165,10 +168,12 @@ fn bad_lists(bench: &mut Bench) -> Run {
         };
         put((1, 0), &|rules| rules.truncate(rules.len() - 1));
         put((1, 0), &|rules| rules.push(0));
-        put((1, 0), &|rules| rules.resize(5_130, 0));
-        put((2, one), &|rules| rules[10 * one + 9] = 256);
-        put((2, one), &|rules| rules[10 * one + 1] = 33);
-        put((11, other), &|rules| rules.copy_within(..10, 10 * other));
+        put((1, 0), &|rules| rules.resize(513 * RULE_WORDS, 0));
+        put((2, one), &|rules| rules[RULE_WORDS * one + 9] = 256);
+        put((2, one), &|rules| rules[RULE_WORDS * one + 1] = 33);
+        put((2, one), &|rules| rules[RULE_WORDS * one + ACTION] = 256);
+        put((11, other), &|rules| rules.copy_within(..RULE_WORDS, RULE_WORDS * other));
+        put((11, other), &|rules| rules.copy_within(..ACTION, RULE_WORDS * other));
         for (refusal, rules) in lists {
             for rooms in [[0, 0], [2, 0], [3, 4], AMPLE] {
                 for most in [0, 1, u64::MAX] {

@@ -1,5 +1,7 @@
 //! Limits of the room that is lent to all-match: too short, exact and ample.
 
+use oracle::rules::RULE_WORDS;
+
 use crate::bench::{Bench, Run};
 use crate::draws::Draws;
 use crate::headers::{self, WORKED};
@@ -38,7 +40,7 @@ fn every_list(bench: &mut Bench) -> Run {
 
 /// Too short a room names the whole number of matches, however short it is.
 fn every_room(bench: &mut Bench, case: &str, words: &[u32], header: &[u32]) -> Run {
-    let count = bench.line_all(case, words, header, words.len() / 10)?.a;
+    let count = bench.line_all(case, words, header, words.len() / RULE_WORDS)?.a;
     for room in 0..=count + 2 {
         let answer = bench.line_all(case, words, header, room as usize)?;
         if room < count {

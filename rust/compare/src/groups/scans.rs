@@ -1,5 +1,6 @@
 //! The two searches that judge no list: good lists, lists of any length, damaged ones, and any room and header.
 
+use oracle::rules::RULE_WORDS;
 use oracle::Answer;
 
 use crate::bench::{Bench, Run};
@@ -65,8 +66,8 @@ fn any_lengths(bench: &mut Bench) -> Run {
     for size in [0, 1, 2, 3, 10, 511, 512, 513, 514, 600, 1_000, MANY_RULES] {
         let everything = EVERYTHING.repeat(size + 1);
         let last_alone = [EVERYTHING.map(|_| 9).repeat(size), EVERYTHING.to_vec()].concat();
-        for more in 0..10 {
-            let words = 10 * size + more;
+        for more in 0..RULE_WORDS {
+            let words = RULE_WORDS * size + more;
             let case = format!("everything, {words} words");
             expect(scan(bench, &case, &everything[..words], &WORKED)?, size, 0);
             let case = format!("a rule that matches behind {size} that do not, {words} words");
@@ -99,7 +100,7 @@ struct Scanned {
 /// Both scans, for all with room for a number of every rule.
 fn scan(bench: &mut Bench, case: &str, rules: &[u32], header: &[u32]) -> Result<Scanned, String> {
     let first = bench.scan_first(case, rules, header)?;
-    let all = bench.scan_all(case, rules, header, rules.len() / 10)?;
+    let all = bench.scan_all(case, rules, header, rules.len() / RULE_WORDS)?;
     Ok(Scanned { first, all })
 }
 
@@ -115,7 +116,7 @@ fn every_room(bench: &mut Bench) -> Run {
     let worked = WORKED_POLICY.concat();
     let not_good = EVERYTHING.map(|word| word * 2).repeat(20);
     let many = EVERYTHING.repeat(600);
-    for (words, counts) in [(&worked[..], 3), (&not_good[..], 20), (&not_good[..199], 19), (&many[..], 600), (&[], 0)] {
+    for (words, counts) in [(&worked[..], 3), (&not_good[..], 20), (&not_good[..219], 19), (&many[..], 600), (&[], 0)] {
         for room in 0..counts + 3 {
             let case = format!("{} words, {counts} matches", words.len());
             let answer = bench.scan_all(&case, words, &WORKED, room)?;

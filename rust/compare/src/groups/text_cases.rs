@@ -6,7 +6,7 @@ use crate::texts::{File, Text};
 const PURPOSE: &str = "damage";
 
 /// The rooms that all good texts need.
-const NEEDED: [usize; 2] = [20, 3];
+const NEEDED: [usize; 2] = [22, 3];
 
 pub fn run(bench: &mut Bench) -> Run {
     bench.group(PURPOSE, "rules files: chosen faults, alone and together", rules_files)?;
@@ -15,7 +15,7 @@ pub fn run(bench: &mut Bench) -> Run {
 
 /// What is wrong, the text, and the refusal's number and place. Lines are parted by `|`, fields by a blank; A and B are
 /// the fields of two rules, which differ in the last.
-type Case = (&'static str, &'static str, u64, u64);
+pub type Case = (&'static str, &'static str, u64, u64);
 
 const RULES_CASES: [Case; 56] = [
     ("good", "rules 1|rule 0 1.2.3.4/32 0.0.0.0/0 0 9 1 1 6 6|end 2|", 0, 0),

@@ -1,6 +1,7 @@
 //! Damage to texts drawn at random: several damages at once, small numbers in the shape of files, and no shape at all.
 
-use oracle::rule_file::rule_line;
+use oracle::rule_file::{rule_line, Kind};
+use oracle::rules::RULE_WORDS;
 
 use crate::bench::{Bench, Run};
 use crate::draws::Draws;
@@ -12,8 +13,8 @@ use crate::texts::{self, File, Text};
 const PURPOSE: &str = "damage";
 
 /// What a drawn text is put together from.
-const TOKENS: [&str; 26] = [
-    "rules", "rule", "tree", "cut", "leaf", "end", "\t", "\t", "\t", "\t", "\n", "\n", "0", "1", "2", "3", "10",
+const TOKENS: [&str; 27] = [
+    "rules", "acl", "rule", "tree", "cut", "leaf", "end", "\t", "\t", "\t", "\t", "\n", "\n", "0", "1", "2", "3", "10",
     "65535", "4294967296", "0.0.0.0/0", "10.0.0.0/8", ".", "/", " ", "\r", "\0",
 ];
 
@@ -48,12 +49,13 @@ fn small_rules(bench: &mut Bench) -> Run {
         let mut words = lists::good_list(&mut draws, size, manner).words();
         let rarity = draws.pick(&[10, 100, 1_000]);
         turn_words(&mut words, rarity, &mut draws);
-        let mut text = format!("rules\t{}\n", mostly(size, &mut draws));
-        for (rule, ten) in words.chunks_exact(10).enumerate() {
-            text += &(rule_line(mostly(rule, &mut draws) as u32, ten) + "\n");
+        let kind = if draws.once_in(8) { Kind::Rules } else { texts::kind_of(&words) };
+        let mut text = format!("{}\t{}\n", kind.word(), mostly(size, &mut draws));
+        for (rule, words) in words.chunks_exact(RULE_WORDS).enumerate() {
+            text += &(rule_line(kind, mostly(rule, &mut draws) as u32, words) + "\n");
         }
         text += &format!("end\t{}\n", mostly(size + 1, &mut draws));
-        let text = Text { file: File::Rules, bytes: text.into_bytes(), needed: [10 * size, 0] };
+        let text = Text { file: File::Rules, bytes: text.into_bytes(), needed: [RULE_WORDS * size, 0] };
         bench.read_in_rooms(&format!("seed {seed}, small rules file"), &text)?;
     }
     Ok(())

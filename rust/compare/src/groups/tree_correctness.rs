@@ -1,5 +1,6 @@
 //! Correctness of trees: good ones are accepted with their figures, and searched as the list is searched.
 
+use oracle::rules::RULE_WORDS;
 use oracle::Answer;
 
 use crate::bench::{Bench, Run};
@@ -124,14 +125,15 @@ fn search_planted(bench: &mut Bench, case: &str, planted: &Planted, headers: usi
 fn search_as_list(bench: &mut Bench, case: &str, planted: &Planted, draws: &mut Draws) -> Run {
     let header = trees::header_for(planted, draws);
     let Policy { rules, nodes, pool } = &planted.policy;
-    let mut by_line = vec![u32::MAX; rules.len() / 10];
+    let mut by_line = vec![u32::MAX; rules.len() / RULE_WORDS];
     let mut by_tree = by_line.clone();
     let line = oracle::line_all(rules, &header, &mut by_line);
     let tree = oracle::tree_all(rules, nodes, pool, &header, &mut by_tree);
     assert_eq!((line.number, line.a, by_line), (tree.number, tree.a, by_tree), "the oracle: {case}");
 
     let first = bench.tree_first(case, &planted.policy, &header)?;
-    assert_eq!(first.a, oracle::line_first(rules, &header).a, "the oracle: {case}");
+    let by_list = oracle::line_first(rules, &header);
+    assert_eq!((first.a, first.d), (by_list.a, by_list.d), "the oracle: {case}");
     let room = line.a as usize + draws.below(3);
     let all = bench.tree_all(case, &planted.policy, &header, room)?;
     assert!(all.b <= planted.places.most_cuts() + 1 && all.c <= planted.places.longest_leaf(), "the oracle: {case}");

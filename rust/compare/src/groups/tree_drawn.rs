@@ -1,5 +1,7 @@
 //! Damage to trees drawn at random: flipped bits of good trees, and small words of no meaning.
 
+use oracle::rules::RULE_WORDS;
+
 use crate::bench::{Bench, Run};
 use crate::draws::Draws;
 use crate::groups::tree_damage::good_tree;
@@ -125,7 +127,7 @@ fn small_header(draws: &mut Draws) -> Header {
 fn drawn_words(bench: &mut Bench) -> Run {
     for seed in 760_000..764_000 {
         let mut draws = Draws::seeded(seed);
-        let rules = 10 * draws.below(4) + if draws.once_in(8) { draws.below(10) } else { 0 };
+        let rules = RULE_WORDS * draws.below(4) + if draws.once_in(8) { draws.below(RULE_WORDS) } else { 0 };
         let nodes = if draws.once_in(4) { draws.below(40) } else { 3 * draws.below(12) };
         let width = draws.pick(&[0, 24, 28, 29]);
         let policy = Policy {

@@ -1,6 +1,7 @@
 //! Limits of trees: the largest sizes, and word counts on both sides of what is allowed.
 
 use oracle::parts::Part;
+use oracle::rules::RULE_WORDS;
 use oracle::Answer;
 
 use crate::bench::{Bench, Run};
@@ -19,7 +20,7 @@ pub fn run(bench: &mut Bench) -> Run {
 }
 
 /// A rule for each 512th of the source addresses.
-fn strips() -> Vec<Rule> {
+pub fn strips() -> Vec<Rule> {
     (0..512)
         .map(|strip| {
             let mut rule = EVERYTHING;
@@ -46,7 +47,7 @@ fn strip_tree(low: u32, leaves: u32) -> Part {
 pub fn largest_tree() -> Planted {
     let planted = Planted::of(&strips(), strip_tree(0, 1_024));
     let Policy { rules, nodes, pool } = &planted.policy;
-    assert_eq!((rules.len(), nodes.len(), pool.len()), (5_120, 6_141, 4_096));
+    assert_eq!((rules.len(), nodes.len(), pool.len()), (5_632, 6_141, 4_096));
     planted
 }
 
@@ -71,7 +72,7 @@ fn one_more(bench: &mut Bench, largest: &Policy) -> Run {
         for whole in [true, false] {
             let mut policy = largest.clone();
             if set & 1 > 0 {
-                policy.rules.extend(&EVERYTHING[..if whole { 10 } else { 1 }]);
+                policy.rules.extend(&EVERYTHING[..if whole { RULE_WORDS } else { 1 }]);
             }
             if set & 2 > 0 {
                 policy.nodes.extend(&[5, 4_096, 0][..if whole { 3 } else { 1 }]);

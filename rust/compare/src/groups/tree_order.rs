@@ -1,5 +1,6 @@
 //! The order in which a tree's faults are told: several at once get the first one's number and place.
 
+use oracle::rules::RULE_WORDS;
 use oracle::Answer;
 
 use crate::bench::{Bench, Run};
@@ -69,7 +70,7 @@ fn every_set(bench: &mut Bench) -> Run {
 /// Rule 1 is made rule 0, or rule 2 is made rule 0 or rule 1.
 fn make_twins(policy: &mut Policy, form: usize) {
     let (later, earlier) = [(1, 0), (2, 0), (2, 1)][form];
-    policy.rules.copy_within(10 * earlier..10 * earlier + 10, 10 * later);
+    policy.rules.copy_within(RULE_WORDS * earlier..RULE_WORDS * (earlier + 1), RULE_WORDS * later);
 }
 
 /// Node 0's first word, node 1's start, or node 4's start.

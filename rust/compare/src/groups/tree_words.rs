@@ -1,5 +1,6 @@
 //! Tree search on words that no check accepts: it takes any, and its walk still ends.
 
+use oracle::rules::RULE_WORDS;
 use oracle::Answer;
 
 use crate::bench::{Bench, Run};
@@ -123,7 +124,7 @@ fn free_rules(bench: &mut Bench) -> Run {
             }
         }
         if draws.once_in(2) {
-            rules.truncate(rules.len() - draws.below(10));
+            rules.truncate(rules.len() - draws.below(RULE_WORDS));
         }
         let count = draws.below(size + 2);
         let pool: Vec<u32> = (0..count).map(|_| draws.below(size) as u32).collect();
@@ -133,12 +134,12 @@ fn free_rules(bench: &mut Bench) -> Run {
     }
     worked_rules(bench)?;
     // Each number of words less than two rules: an entry that names the second is wrong.
-    for words in 0..=20 {
+    for words in 0..=2 * RULE_WORDS {
         for pool in [&[0][..], &[1], &[0, 1], &[1, 0]] {
             let rules = EVERYTHING.repeat(2)[..words].to_vec();
             let policy = Policy { rules, nodes: vec![5, 0, pool.len() as u32], pool: pool.to_vec() };
             let answer = bench.tree_searches(&format!("{words} rule words, entries {pool:?}"), &policy, &WORKED)?;
-            let lent = pool.iter().all(|&entry| 10 * (entry as usize + 1) <= words);
+            let lent = pool.iter().all(|&entry| RULE_WORDS * (entry as usize + 1) <= words);
             assert_eq!(answer.number, if lent { 0 } else { 7 });
         }
     }
@@ -150,7 +151,7 @@ fn worked_rules(bench: &mut Bench) -> Run {
     let worked = trees::worked().policy;
     for (rule, word) in [(0, 1), (1, 1), (2, 1), (0, 9), (1, 6), (2, 0)] {
         let mut policy = worked.clone();
-        policy.rules[10 * rule + word] = u32::MAX;
+        policy.rules[RULE_WORDS * rule + word] = u32::MAX;
         let case = format!("worked policy, word {word} of rule {rule} made the largest");
         bench.tree_first(&case, &policy, &WORKED)?;
         for room in 0..4 {
@@ -195,7 +196,7 @@ fn long_slices(bench: &mut Bench) -> Run {
     let answer = bench.tree_first("seed 850000, one leaf of 4,500", &long, &WORKED)?;
     assert_eq!((answer.b, answer.c), (1, 1));
     let mut none = long.clone();
-    none.rules = [0, 0, 0, 0, 0, 0, 0, 0, 7, 7].repeat(600);
+    none.rules = [0, 0, 0, 0, 0, 0, 0, 0, 7, 7, 0].repeat(600);
     let answer = bench.tree_first("seed 850000, one leaf of 4,500 without a match", &none, &WORKED)?;
     assert_eq!(answer, Answer::completed(0, 1, 4_500));
     bench.tree_check("seed 850000, one leaf of 4,500", &long)?;

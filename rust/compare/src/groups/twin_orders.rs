@@ -1,6 +1,8 @@
 //! Twins beside each other fault: 1 and 2 come before 11, and 3 to 8 after it. In a text 9 and 10 come before it, and 4
 //! after it.
 
+use oracle::rule_file::Kind;
+
 use crate::bench::{Agreed, Bench, Run};
 use crate::damages::{damaged_rules, with_bad_fields};
 use crate::draws::Draws;
@@ -98,7 +100,9 @@ fn after_11(bench: &mut Bench) -> Run {
     let length = texts::rules_file(4, &WORKED_TWINS).bytes.len();
     for room in [0, 1, 2, 3, 4, 7, 14, length - 1, length, length + 1] {
         let case = format!("worked policy with a twin, room {room}");
-        for answer in [bench.rules_write(&case, &words, room)?, bench.build(&case, &words, [room, room])?] {
+        let writers = [Kind::Rules, Kind::Acl].map(|kind| bench.list_write(&case, kind, &words, room));
+        for answer in writers.into_iter().chain([bench.build(&case, &words, [room, room])]) {
+            let answer = answer?;
             assert_eq!((answer.number, answer.place, answer.extra), twins, "the oracle: {case}");
         }
     }
@@ -148,7 +152,7 @@ fn every_room(bench: &mut Bench) -> Run {
         let text = texts::rules_file(rules.len(), &rules);
         let needed = text.needed[0];
         let case = format!("seed {seed}, twins {later} and {earlier} of {}", rules.len());
-        for room in (0..=20.min(needed)).chain([needed - 10, needed - 1, needed, needed + 1, needed + 100]) {
+        for room in (0..=20.min(needed)).chain([needed - 11, needed - 1, needed, needed + 1, needed + 100]) {
             let answer = bench.rules_read(&case, &text.bytes, room)?;
             let given = (answer.number, answer.place as usize, answer.extra as usize);
             assert_eq!(given, (11, later, earlier), "the oracle: {case}");

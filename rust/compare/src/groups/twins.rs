@@ -1,6 +1,6 @@
 //! Lists in which a later rule has the words of an earlier one: 11 from every call that judges a list.
 
-use oracle::rules::{is_good, rule_of};
+use oracle::rules::{is_good, rule_of, FIELD_WORDS, RULE_WORDS};
 
 use crate::bench::{Agreed, Bench, Run};
 use crate::draws::Draws;
@@ -14,7 +14,7 @@ use crate::trees::{self, Policy};
 const PURPOSE: &str = "correctness";
 
 /// A rule of which each word can be made another one, and the rule is still good.
-const CHANGEABLE: Rule = [0x0A01_0000, 16, 0xC0A8_0100, 24, 1_000, 2_000, 80, 90, 6, 17];
+pub const CHANGEABLE: Rule = [0x0A01_0000, 16, 0xC0A8_0100, 24, 1_000, 2_000, 80, 90, 6, 17, 0];
 
 pub fn run(bench: &mut Bench) -> Run {
     bench.group(PURPOSE, "twins: every way in which 0 to 6 rules can be alike", every_pattern)?;
@@ -33,7 +33,7 @@ pub type Pair = [usize; 2];
 
 /// Every call that judges a list takes these rules, or refuses them with 11 and these twins. The searches that judge no
 /// list complete, and list both twins.
-fn judge(bench: &mut Bench, case: &str, rules: &[Rule], twins: Option<Pair>) -> Run {
+pub fn judge(bench: &mut Bench, case: &str, rules: &[Rule], twins: Option<Pair>) -> Run {
     let words = rules.concat();
     let header = rules.get(twins.map_or(0, |[later, _]| later)).map_or(WORKED, low_corner);
     let every_rule: Vec<u32> = (0..rules.len() as u32).collect();
@@ -138,7 +138,7 @@ fn long_lists(bench: &mut Bench) -> Run {
         judge(bench, &case, &rules, Some(pairs[0]))?;
     }
     for size in [2, 3, 9, 511, 512] {
-        for rule in [EVERYTHING, CHANGEABLE, [0; 10]] {
+        for rule in [EVERYTHING, CHANGEABLE, [0; RULE_WORDS]] {
             judge(bench, &format!("{rule:?}, {size} times"), &vec![rule; size], Some([1, 0]))?;
         }
     }
@@ -147,7 +147,7 @@ fn long_lists(bench: &mut Bench) -> Run {
 
 /// Each bit of each word that leaves the rule good; and words that change places.
 fn near_twins(bench: &mut Bench) -> Run {
-    for word in 0..10 {
+    for word in 0..FIELD_WORDS {
         let mut tried = 0;
         for bit in 0..32 {
             let mut other = CHANGEABLE;
@@ -162,10 +162,11 @@ fn near_twins(bench: &mut Bench) -> Run {
         assert!(tried >= 3, "bits of each word are tried: {tried} of word {word}");
     }
     let [a, b, c, d, e, f, g, h, ..] = CHANGEABLE;
-    let addresses_swapped = [c, d, a, b, e, f, g, h, 6, 17];
-    let ports_swapped = [a, b, c, d, g, h, e, f, 6, 17];
-    let both_swapped = [c, d, a, b, g, h, e, f, 6, 17];
-    let others = [[a, b, c, d, g, e, h, f, 6, 17], [a, b, c, d, h, f, g, e, 6, 17], [a, b, c, d, g, f, h, e, 6, 17]];
+    let addresses_swapped = [c, d, a, b, e, f, g, h, 6, 17, 0];
+    let ports_swapped = [a, b, c, d, g, h, e, f, 6, 17, 0];
+    let both_swapped = [c, d, a, b, g, h, e, f, 6, 17, 0];
+    let ports = [[g, e, h, f], [h, f, g, e], [g, f, h, e]];
+    let others = ports.map(|[e, f, g, h]| [a, b, c, d, e, f, g, h, 6, 17, 0]);
     let swapped = [&[CHANGEABLE, addresses_swapped, ports_swapped, both_swapped][..], &others].concat();
     judge(bench, "words that change places", &swapped, None)?;
     for earlier in 0..swapped.len() {

@@ -1,19 +1,22 @@
--- Slots: the mix of a rule's words fits, there are so many slots, and rules with equal words share one.
+-- Slots: the mix of a rule's words fits, there are so many slots, and rules with equal words share one; and the loop
+-- that works out the slot of each rule.
 use Prim.Native.Nat.{ℕ, zero, suc, _+_, _*_, _/_, _%_, _^_, _≤_, _<_}
 use native.Mathlib.Nat.{le-of-lt, mul-le-mul}
 use native.Mathlib.Numerals.{add-one}
 use native.Mathlib.Omega.{arith}
 use mathlib.Core.Bool.{true}
-use mathlib.Core.Path.{_≡_, refl, ap}
+use mathlib.Core.Path.{_≡_, refl, ap, _∙_}
 use mathlib.Core.List.{List}
-use lib.ListN.{getD}
+use lib.ListN.{length, getD, set, length-set}
+use lib.Seq.{getD-set-same, getD-set-other}
 use lib.Dec.{ltb}
 use borrow.Author.Tests.{ltb-true}
 use Rattle.facts.specs.Below.{allBelow}
 use Rattle.facts.proofs.Below.{all-below-at}
-use Rattle.rules.specs.Words.{matchWords, wordOf}
+use Rattle.facts.proofs.Cases.{Order, below, same, above, order}
+use Rattle.rules.specs.Words.{matchWords, mostRules, ruleCount, wordOf}
 use Rattle.rules.specs.Twins.{sameWords}
-use Rattle.rules.specs.Chains.{slots, factors, dropped, mixOf, slotOf}
+use Rattle.rules.specs.Chains.{slots, factors, dropped, mixOf, slotOf, Slotted}
 use Rattle.rules.proofs.EqualWords.{same-iff}
 
 -- ---- the mix
@@ -85,3 +88,31 @@ module _ (rs : List ℕ) (r : ℕ) where
 pub slot-of-same : (rs : List ℕ) (q r : ℕ) → sameWords rs q r ≡ true → slotOf rs q ≡ slotOf rs r
 unfolding slotOf
 slot-of-same rs q r e = rw (mix-same (wordOf rs q) (wordOf rs r) matchWords (same-iff rs q r .0 e))
+
+-- ---- the loop over the rules, for any slots
+
+module _ (slot : ℕ → ℕ) where
+  -- the loop's invariant at rule r: the slots of the rules before it are stored
+  pub record SlotsBelow (words : List ℕ) (r : ℕ) : Type 0 where
+    pub room : length words ≡ mostRules
+    pub stored : (q : ℕ) → q < r → getD words q 0 ≡ slot q
+
+  -- where the loop begins there are none
+  pub slots-first : (words : List ℕ) → length words ≡ mostRules → SlotsBelow words 0
+  slots-first words l = record { room = l; stored = λ q u. absurd (omega arith) }
+
+  -- one more is stored
+  pub slots-step :
+      {words : List ℕ} {r s : ℕ} → SlotsBelow words r → r < mostRules → s ≡ slot r → SlotsBelow (set words r s) (r + 1)
+  slots-step {words} {r} {s} w l e =
+      record { room = length-set words r s ∙ w .room; stored = λ q u. go q u (order q r) }
+    where
+      go : (q : ℕ) → q < r + 1 → Order q r → getD (set words r s) q 0 ≡ slot q
+      go q u (below k) = getD-set-other words r q s 0 (λ p. omega arith) ∙ w .stored q k
+      go q u (same k) = rw k (getD-set-same words r s 0 (omega (arith, w .room)) ∙ e)
+      go q u (above k) = absurd (omega arith)
+
+  -- at the end they all are
+  pub slots-last :
+      {rs words : List ℕ} {r : ℕ} → SlotsBelow words r → ruleCount rs ≤ r → Slotted rs slot words 0
+  slots-last w l = record { room = w .room; ahead = λ q z u. w .stored q (omega arith) }

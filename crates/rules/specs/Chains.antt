@@ -8,13 +8,14 @@
 --   latestIn slot r s          the place of the latest rule before r whose slot is s; the slot of rule q is slot q
 --   Chained rs slot before r   the rules before r are chained by the words `before`, and no two of them are twins
 --   Latest slot latest r       the words `latest` have the place where the chain of each slot begins
+--   Slotted rs slot before r   the words `before` have the slot of each rule from r on
 use Prim.Native.Nat.{ℕ, zero, suc, _+_, _*_, _/_, _%_, _≤_, _<_}
 use mathlib.Core.Bool.{false, cond}
 use mathlib.Core.List.{List, [], _∷_}
 use mathlib.Core.Path.{_≡_}
 use lib.ListN.{length, getD}
 use lib.Dec.{eqb}
-use Rattle.rules.specs.Words.{matchWords, wordOf}
+use Rattle.rules.specs.Words.{matchWords, mostRules, ruleCount, wordOf}
 use Rattle.rules.specs.Twins.{sameWords}
 
 abbrev pub slots : ℕ
@@ -47,3 +48,7 @@ pub record Chained (rs : List ℕ) (slot : ℕ → ℕ) (before : List ℕ) (r :
 pub record Latest (slot : ℕ → ℕ) (latest : List ℕ) (r : ℕ) : Type 0 where
   pub room : length latest ≡ slots
   pub begins : (s : ℕ) → s < slots → getD latest s 0 ≡ latestIn slot r s
+
+pub record Slotted (rs : List ℕ) (slot : ℕ → ℕ) (before : List ℕ) (r : ℕ) : Type 0 where
+  pub room : length before ≡ mostRules
+  pub ahead : (q : ℕ) → r ≤ q → q < ruleCount rs → getD before q 0 ≡ slot q

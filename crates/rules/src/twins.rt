@@ -10,9 +10,10 @@ use refusals::Refusal;
 use refusals::Verdict;
 ghost use Prim.Native.Nat.{_≤_, _<_};
 ghost use mathlib.Core.Path.{_≡_};
+ghost use lib.ListN.{length};
 ghost use Rattle.rules.specs.Words.{ruleCount, mostRules};
 ghost use Rattle.rules.specs.Twins.{sameWords, earlierTwin, twinsVerdict};
-ghost use Rattle.rules.specs.Chains.{slotOf, latestIn, Chained};
+ghost use Rattle.rules.specs.Chains.{slotOf, latestIn, Chained, Slotted};
 
 // The number of slots.
 const SLOTS: usize = 512;
@@ -35,18 +36,20 @@ const FACTORS: [usize; MATCH_WORDS] = [
 // What a mix is divided by: its lowest 24 bits are dropped.
 const DROPPED: usize = 16_777_216;
 
-// 11 at the lowest rule that has the words of an earlier one. `latest` has for each slot the place of its latest rule,
-// and `before` for each rule the place of the one before it in its slot: its number and 1 more, or 0 for none.
+// 11 at the lowest rule that has the words of an earlier one. `latest` has for each slot the place of its latest rule.
+// `before` has for each rule that is chained the place of the one before it in its slot: its number and 1 more, or 0 for
+// none. For each other rule it has the slot.
 pub(crate) fn twins_verdict(rules: &[u32]) -> Verdict
     requires { ⌜ ruleCount (now rules) ≤ mostRules ⌝ }
     ensures { λ v. ⌜ v ≡ twinsVerdict (now (rules .entry)) ⌝ }
 {
-    let mut latest = [0u32; SLOTS];
     let mut before = [0u32; MOST_RULES];
+    put_slots(rules, &mut before);
+    let mut latest = [0u32; SLOTS];
     let count = rules.len() / RULE_WORDS;
     let mut rule = 0;
     while rule < count {
-        let slot = slot_of(rules, rule);
+        let slot = wide(before[rule]);
         let place = latest[slot];
         let earlier = twin_in(rules, &before, place, rule);
         if earlier < rule {
@@ -89,6 +92,19 @@ fn same_words(rules: &[u32], q: usize, r: usize) -> bool
         j += 1;
     }
     true
+}
+
+// Puts the slot of each rule. A loop by itself works them out, so that no sum waits for what is found in a chain.
+fn put_slots(rules: &[u32], before: &mut [u32])
+    requires { ⌜ (ruleCount (now rules) ≤ mostRules) × (length (now before) ≡ mostRules) ⌝ }
+    ensures { λ _. ⌜ Slotted (now (rules .entry)) (slotOf (now (rules .entry))) (now (before .exit)) 0 ⌝ }
+{
+    let count = rules.len() / RULE_WORDS;
+    let mut r = 0;
+    while r < count {
+        before[r] = slot_of(rules, r) as u32;
+        r += 1;
+    }
 }
 
 // The slot of a rule.

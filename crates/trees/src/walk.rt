@@ -51,7 +51,8 @@ pub(crate) fn walk_to(nodes: &[u32], header: &[u32]) -> Walked
     }
 }
 
-// What stands at node `i`. That it is wholly there is looked at first, with no division.
+// What stands at node `i`. That it is wholly there is looked at first, with no division; and one test tells that it is a
+// cut, as most nodes on the way are.
 fn step_of(nodes: &[u32], header: &[u32], i: usize) -> Step
     requires { ⌜ (length (now header) ≡ fieldCount) × (i < 2 ^ 62) ⌝ }
     ensures { λ r. ⌜ r ≡ stepOf (now (nodes .entry)) (now (header .entry)) i ⌝ }
@@ -60,10 +61,10 @@ fn step_of(nodes: &[u32], header: &[u32], i: usize) -> Step
         return Step::Wrong;
     }
     let first = node_word(nodes, i, FIRST);
-    if first == LEAF_MARK {
-        return Step::Leaf;
-    }
-    if LEAF_MARK < first {
+    if LEAF_MARK <= first {
+        if first == LEAF_MARK {
+            return Step::Leaf;
+        }
         return Step::Wrong;
     }
     if node_word(nodes, i, CHILD) <= i {

@@ -1,43 +1,60 @@
--- `rules::twins::twins_verdict` meets its contract. The invariant: the rules before this one are chained, and none of
--- them has a twin before it. Assumes nothing.
-use Prim.Native.Nat.{_-_, _≤_}
+-- `rules::twins::twins_verdict` meets its contract. The invariant: the rules before this one are chained, none of them
+-- has a twin before it, and the slots of the others stand behind. Assumes nothing.
+use Prim.Native.Nat.{ℕ, _-_, _≤_}
 use native.Mathlib.Omega.{arith}
 use mathlib.Core.Path.{_≡_, refl}
+use lib.ListN.{length-replicate}
 use borrow.Author.Needs.{needs}
-use Rattle.rules.specs.Words.{ruleCount}
+use Rattle.rules.specs.Words.{mostRules, ruleCount}
 use Rattle.rules.specs.Chains.{slotOf}
 use Rattle.rules.proofs.Slots.{slot-below}
-use Rattle.rules.proofs.Chaining.{AllApart, apart-first, apart-place, apart-step, apart-stop, apart-last}
+use Rattle.rules.proofs.Chaining.{AllApart, apart-first, apart-slot, apart-place, apart-step, apart-stop}
+use Rattle.rules.proofs.Chaining.{apart-last}
 use Rattle.rules.proofs.twins.twins_verdict.Statement.{statement}
 use Rattle.rules.proofs.twins.twins_verdict.Tie as tie
 
 abbrev Inv-loop : tie.InvT-loop
-Inv-loop rules latest₀ before₀ count rule₀ latest before rule =
+Inv-loop rules before₀ latest₀ count rule₀ before latest rule =
     (count ≡ ruleCount rules) × (rule ≤ ruleCount rules) × AllApart rules (slotOf rules) latest before rule
 
 abbrev μ-loop : tie.MeasureT-loop
-μ-loop rules latest₀ before₀ count rule₀ latest before rule = ruleCount rules - rule
+μ-loop rules before₀ latest₀ count rule₀ before latest rule = ruleCount rules - rule
+
+slice-aggregate-put-slots : tie.Need-slice-aggregate-put-slots Inv-loop μ-loop
+slice-aggregate-put-slots c = search needs
+
+put-slots-requires : tie.Need-put-slots-requires Inv-loop μ-loop
+put-slots-requires c κs = (c .before .before .pre, length-replicate {A = ℕ} mostRules 0)
 
 loop-holds : tie.Need-loop-holds Inv-loop μ-loop
-loop-holds c = (refl, omega arith, apart-first _ _)
+loop-holds c = (refl, omega arith, apart-first _ _ (c .before .put-slots .ensures))
 
-slot-of-requires : tie.Need-slot-of-requires Inv-loop μ-loop
-slot-of-requires c κs = omega arith
+mul-wide : tie.Need-mul-wide Inv-loop μ-loop
+mul-wide c = omega arith
+
+array-read-wide : tie.Need-array-read-wide Inv-loop μ-loop
+array-read-wide c = omega (arith, c .before .before .before .before .before .before .pre)
+
+wide-requires : tie.Need-wide-requires Inv-loop μ-loop
+wide-requires c κs = search needs
 
 mul-place : tie.Need-mul-place Inv-loop μ-loop
-mul-place c = omega (arith, slot-below _ _ (c .slot-of .ensures))
+mul-place c =
+    let slot = apart-slot _ _ (c .before .before .loop .inv .2) (c .wide .ensures) (omega arith) in
+    omega (arith, slot-below _ _ slot)
 
 array-read-place : tie.Need-array-read-place Inv-loop μ-loop
-array-read-place c = slot-below _ _ (c .slot-of .ensures)
+array-read-place c =
+    let slot = apart-slot _ _ (c .before .before .loop .inv .2) (c .wide .ensures) (omega arith) in slot-below _ _ slot
 
 slice-aggregate-twin-in : tie.Need-slice-aggregate-twin-in Inv-loop μ-loop
 slice-aggregate-twin-in c = search needs
 
 twin-in-requires : tie.Need-twin-in-requires Inv-loop μ-loop
 twin-in-requires c κs =
-    let l = c .before .before .before in
-    let slot = c .before .slot-of .ensures in
-    (omega arith, l .loop .inv .2 .chained, apart-place _ _ (l .loop .inv .2) slot (slot-below _ _ slot))
+    let inv = c .before .before .before .loop .inv .2 in
+    let slot = apart-slot _ _ inv (c .before .wide .ensures) (omega arith) in
+    (omega arith, inv .chained, apart-place _ _ inv slot (slot-below _ _ slot))
 
 returns : tie.Need-returns Inv-loop μ-loop
 returns c =
@@ -48,19 +65,25 @@ mul-before : tie.Need-mul-before Inv-loop μ-loop
 mul-before c = omega arith
 
 array-write-before : tie.Need-array-write-before Inv-loop μ-loop
-array-write-before c = omega (arith, c .before .before .before .before .before .before .before .pre)
+array-write-before c = omega (arith, c .before .before .before .before .before .before .before .before .before .before .pre)
 
 cast-latest : tie.Need-cast-latest Inv-loop μ-loop
-cast-latest c = omega (arith, c .before .before .before .before .before .before .before .pre)
+cast-latest c = omega (arith, c .before .before .before .before .before .before .before .before .before .before .pre)
 
 add-latest : tie.Need-add-latest Inv-loop μ-loop
-add-latest c = omega (arith, c .before .before .before .before .before .before .before .pre)
+add-latest c = omega (arith, c .before .before .before .before .before .before .before .before .before .before .pre)
 
 mul-latest : tie.Need-mul-latest Inv-loop μ-loop
-mul-latest c = omega (arith, slot-below _ _ (c .before .before .before .slot-of .ensures))
+mul-latest c =
+    let l = c .before .before .before .before .before in
+    let slot = apart-slot _ _ (l .loop .inv .2) (c .before .before .before .wide .ensures) (omega arith) in
+    omega (arith, slot-below _ _ slot)
 
 array-write-latest : tie.Need-array-write-latest Inv-loop μ-loop
-array-write-latest c = slot-below _ _ (c .before .before .before .slot-of .ensures)
+array-write-latest c =
+    let l = c .before .before .before .before .before in
+    let slot = apart-slot _ _ (l .loop .inv .2) (c .before .before .before .wide .ensures) (omega arith) in
+    slot-below _ _ slot
 
 add-rule : tie.Need-add-rule Inv-loop μ-loop
 add-rule c = omega arith
@@ -71,11 +94,11 @@ loop-less c = omega arith
 loop-again : tie.Need-loop-again Inv-loop μ-loop
 loop-again c =
     let l = c .before .before .before .before .before in
-    let slot = c .before .before .before .slot-of .ensures in (
+    let slot = apart-slot _ _ (l .loop .inv .2) (c .before .before .before .wide .ensures) (omega arith) in (
       refl,
       omega arith,
       apart-step _ _ (l .loop .inv .2) slot (slot-below _ _ slot) (c .before .twin-in .ensures) (c .if1 .left)
-          (omega arith) (l .before .before .pre),
+          (omega arith) (l .before .before .before .before .before .pre),
     )
 
 returns-2 : tie.Need-returns-2 Inv-loop μ-loop
@@ -87,8 +110,12 @@ twins-verdict-spec =
     (tie.spec
     Inv-loop
     μ-loop
+    slice-aggregate-put-slots
+    put-slots-requires
     loop-holds
-    slot-of-requires
+    mul-wide
+    array-read-wide
+    wide-requires
     mul-place
     array-read-place
     slice-aggregate-twin-in

@@ -29,9 +29,9 @@ use Rattle.rule_file.specs.RuleText.{formatOf, linesIn, rulesIn, textOf as list
 use Rattle.tree_file.specs.TreeText.{Tree, treeIn, partIn}
 use Rattle.tree_file.specs.TreeLines.{textOf, partTextOf, Fits}
 
--- two rules are twins where they have the same word at each place but the action's; a list is fine exactly where it is
--- without them and 1 and 2 do not refuse it; where they do not, it is refused with 11 exactly if it has twins: the place
--- is the lowest rule with a twin before it, and the extra that one, the only one; and so is a text whose lines read well
+-- two rules are twins where they have the same word at each place but the action's; a list is fine exactly where it has
+-- none and 1 and 2 do not refuse it; where they do not, it is refused with 11 exactly if it has twins: the place is the
+-- lowest rule with a twin before it, and the extra that one, the only one; and so is a text whose lines read well
 pub record Twins : Type 0 where
   pub words :
       (rs : List ℕ) (q r : ℕ) →

@@ -15,7 +15,7 @@ use Rattle.refusals.specs.declared.Verdict.the-variants.{Fine, Refused}
 use Rattle.refusals.proofs.Turns.{Head, head-first, head-step, head-stop, head-last}
 use Rattle.rules.specs.Words.{mostRules, ruleCount}
 use Rattle.rules.specs.Twins.{sameWords, earlierTwin, twinVerdict, twinsVerdict}
-use Rattle.rules.specs.Chains.{slots, latestIn, Chained, Latest, Slotted}
+use Rattle.rules.specs.Chains.{slots, latestIn, Chained, Latest, SlotsAhead}
 use Rattle.rules.proofs.EqualWords.{no-twin-iff, twin-at-most}
 use Rattle.rules.proofs.TwinRules.{twin-fine, twin-refused}
 
@@ -87,12 +87,13 @@ module _ (rs : List ℕ) (slot : ℕ → ℕ) where
       other p q k u (above m) = absurd (omega arith)
 
   -- the place of a rule that is chained is stored over its slot, and the slots behind it stay
-  slotted-step :
-      {r : ℕ} {before : List ℕ} (place : ℕ) → Slotted rs slot before r → Slotted rs slot (set before r place) (r + 1)
-  slotted-step {r} {before} place w =
+  ahead-step :
+      {r : ℕ} {before : List ℕ} (place : ℕ) → SlotsAhead rs slot before r →
+      SlotsAhead rs slot (set before r place) (r + 1)
+  ahead-step {r} {before} place w =
       record {
         room = length-set before r place ∙ w .room;
-        ahead = λ q l u. getD-set-other before r q place 0 (λ p. omega arith) ∙ w .ahead q (omega arith) u;
+        slots-are = λ q l u. getD-set-other before r q place 0 (λ p. omega arith) ∙ w .slots-are q (omega arith) u;
       }
 
   -- the loop's invariant at rule r: the rules before it are chained, none of them has a twin before it, and the slots
@@ -100,23 +101,23 @@ module _ (rs : List ℕ) (slot : ℕ → ℕ) where
   pub record AllApart (latest before : List ℕ) (r : ℕ) : Type 0 where
     pub begins : Latest slot latest r
     pub chained : Chained rs slot before r
-    pub slotted : Slotted rs slot before r
+    pub ahead : SlotsAhead rs slot before r
     pub head : Head (ruleCount rs) (twinVerdict rs) r
 
   -- where the loop begins no rule is chained
-  pub apart-first : {before : List ℕ} → Slotted rs slot before 0 → AllApart (replicate slots 0) before 0
+  pub apart-first : {before : List ℕ} → SlotsAhead rs slot before 0 → AllApart (replicate slots 0) before 0
   apart-first {before} w =
       record {
         begins = latest-first slot;
         chained = chained-first before;
-        slotted = w;
+        ahead = w;
         head = head-first _ _;
       }
 
   module _ {latest before : List ℕ} {r : ℕ} (w : AllApart latest before r) where
     -- the word of the next rule is its slot
     pub apart-slot : {s : ℕ} → s ≡ getD before r 0 → r < ruleCount rs → s ≡ slot r
-    apart-slot e u = e ∙ w .slotted .ahead r (omega arith) u
+    apart-slot e u = e ∙ w .ahead .slots-are r (omega arith) u
 
     -- the chain of r's slot begins at the latest rule of it
     pub apart-place : {s : ℕ} → s ≡ slot r → s < slots → getD latest s 0 ≡ latestIn slot r (slot r)
@@ -130,8 +131,8 @@ module _ (rs : List ℕ) (slot : ℕ → ℕ) where
         let own : earlierTwin rs r ≡ r = omega (arith, twin-at-most rs r) in
         record {
           begins = latest-step slot e b (w .begins);
-          chained = chained-step (w .chained) (omega (arith, w .slotted .room)) own (apart-place e b);
-          slotted = slotted-step (getD latest s 0) (w .slotted);
+          chained = chained-step (w .chained) (omega (arith, w .ahead .room)) own (apart-place e b);
+          ahead = ahead-step (getD latest s 0) (w .ahead);
           head = head-step (w .head) u (twin-fine rs r own);
         }
 

@@ -16,7 +16,7 @@ use Rattle.facts.proofs.Below.{all-below-at}
 use Rattle.facts.proofs.Cases.{Order, below, same, above, order}
 use Rattle.rules.specs.Words.{matchWords, mostRules, ruleCount, wordOf}
 use Rattle.rules.specs.Twins.{sameWords}
-use Rattle.rules.specs.Chains.{slots, factors, dropped, mixOf, slotOf, Slotted}
+use Rattle.rules.specs.Chains.{slots, factors, dropped, mixOf, slotOf, SlotsAhead}
 use Rattle.rules.proofs.EqualWords.{same-iff}
 
 -- ---- the mix
@@ -114,5 +114,5 @@ module _ (slot : ℕ → ℕ) where
 
   -- at the end they all are
   pub slots-last :
-      {rs words : List ℕ} {r : ℕ} → SlotsBelow words r → ruleCount rs ≤ r → Slotted rs slot words 0
-  slots-last w l = record { room = w .room; ahead = λ q z u. w .stored q (omega arith) }
+      {rs words : List ℕ} {r : ℕ} → SlotsBelow words r → ruleCount rs ≤ r → SlotsAhead rs slot words 0
+  slots-last w l = record { room = w .room; slots-are = λ q z u. w .stored q (omega arith) }

@@ -8,7 +8,7 @@
 --   latestIn slot r s          the place of the latest rule before r whose slot is s; the slot of rule q is slot q
 --   Chained rs slot before r   the rules before r are chained by the words `before`, and no two of them are twins
 --   Latest slot latest r       the words `latest` have the place where the chain of each slot begins
---   Slotted rs slot before r   the words `before` have the slot of each rule from r on
+--   SlotsAhead rs slot before r    the words `before` have the slot of each rule from r on
 use Prim.Native.Nat.{ℕ, zero, suc, _+_, _*_, _/_, _%_, _≤_, _<_}
 use mathlib.Core.Bool.{false, cond}
 use mathlib.Core.List.{List, [], _∷_}
@@ -49,6 +49,6 @@ pub record Latest (slot : ℕ → ℕ) (latest : List ℕ) (r : ℕ) : Type 0 wh
   pub room : length latest ≡ slots
   pub begins : (s : ℕ) → s < slots → getD latest s 0 ≡ latestIn slot r s
 
-pub record Slotted (rs : List ℕ) (slot : ℕ → ℕ) (before : List ℕ) (r : ℕ) : Type 0 where
+pub record SlotsAhead (rs : List ℕ) (slot : ℕ → ℕ) (before : List ℕ) (r : ℕ) : Type 0 where
   pub room : length before ≡ mostRules
-  pub ahead : (q : ℕ) → r ≤ q → q < ruleCount rs → getD before q 0 ≡ slot q
+  pub slots-are : (q : ℕ) → r ≤ q → q < ruleCount rs → getD before q 0 ≡ slot q

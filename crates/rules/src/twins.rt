@@ -1,6 +1,6 @@
 // Twins: two rules of a list with equal words, their actions aside. A mix of these words picks a rule's slot, so twins
-// share a slot, and a rule is compared only with the earlier rules of its own. These are chained, each to the one before
-// it. However the slots fall, the answer is the same; where many rules share one it takes longer.
+// share a slot, and a rule is compared only with the earlier rules of its own. These are chained, each to the one
+// before it. However the slots fall, the answer is the same; where many rules share one it takes longer.
 use crate::words::MATCH_WORDS;
 use crate::words::MOST_RULES;
 use crate::words::RULE_WORDS;
@@ -13,7 +13,7 @@ ghost use mathlib.Core.Path.{_≡_};
 ghost use lib.ListN.{length};
 ghost use Rattle.rules.specs.Words.{ruleCount, mostRules};
 ghost use Rattle.rules.specs.Twins.{sameWords, earlierTwin, twinsVerdict};
-ghost use Rattle.rules.specs.Chains.{slotOf, latestIn, Chained, Slotted};
+ghost use Rattle.rules.specs.Chains.{slotOf, latestIn, Chained, SlotsAhead};
 
 // The number of slots.
 const SLOTS: usize = 512;
@@ -37,8 +37,8 @@ const FACTORS: [usize; MATCH_WORDS] = [
 const DROPPED: usize = 16_777_216;
 
 // 11 at the lowest rule that has the words of an earlier one. `latest` has for each slot the place of its latest rule.
-// `before` has for each rule that is chained the place of the one before it in its slot: its number and 1 more, or 0 for
-// none. For each other rule it has the slot.
+// `before` has for each rule that is chained the place of the one before it in its slot: its number and 1 more, or 0
+// for none. For each other rule it has the slot.
 pub(crate) fn twins_verdict(rules: &[u32]) -> Verdict
     requires { ⌜ ruleCount (now rules) ≤ mostRules ⌝ }
     ensures { λ v. ⌜ v ≡ twinsVerdict (now (rules .entry)) ⌝ }
@@ -97,7 +97,7 @@ fn same_words(rules: &[u32], q: usize, r: usize) -> bool
 // Puts the slot of each rule. A loop by itself works them out, so that no sum waits for what is found in a chain.
 fn put_slots(rules: &[u32], before: &mut [u32])
     requires { ⌜ (ruleCount (now rules) ≤ mostRules) × (length (now before) ≡ mostRules) ⌝ }
-    ensures { λ _. ⌜ Slotted (now (rules .entry)) (slotOf (now (rules .entry))) (now (before .exit)) 0 ⌝ }
+    ensures { λ _. ⌜ SlotsAhead (now (rules .entry)) (slotOf (now (rules .entry))) (now (before .exit)) 0 ⌝ }
 {
     let count = rules.len() / RULE_WORDS;
     let mut r = 0;

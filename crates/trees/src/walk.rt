@@ -51,8 +51,8 @@ pub(crate) fn walk_to(nodes: &[u32], header: &[u32]) -> Walked
     }
 }
 
-// What stands at node `i`. That it is wholly there is looked at first, with no division; and one test tells that it is a
-// cut, as most nodes on the way are.
+// What stands at node `i`. That it is wholly there is looked at first, with no division. Then one test tells a cut, as
+// most nodes on the way are.
 fn step_of(nodes: &[u32], header: &[u32], i: usize) -> Step
     requires { ⌜ (length (now header) ≡ fieldCount) × (i < 2 ^ 62) ⌝ }
     ensures { λ r. ⌜ r ≡ stepOf (now (nodes .entry)) (now (header .entry)) i ⌝ }

@@ -1,5 +1,5 @@
--- `rules::check::fields_good` meets its contract: a field that is not good ends it. The invariant: the fields before this
--- one are good. Assumes nothing.
+-- `rules::check::fields_good` meets its contract: a field that is not good ends it. The invariant: the fields before
+-- this one are good. Assumes nothing.
 use Prim.Native.Nat.{_-_}
 use native.Mathlib.Omega.{arith}
 use borrow.Author.Needs.{needs}

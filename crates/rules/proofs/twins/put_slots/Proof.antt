@@ -1,5 +1,5 @@
--- `rules::twins::put_slots` meets its contract. The invariant: the slots of the rules before this one are stored. Assumes
--- nothing.
+-- `rules::twins::put_slots` meets its contract. The invariant: the slots of the rules before this one are stored.
+-- Assumes nothing.
 use Prim.Native.Nat.{_-_, _≤_}
 use native.Mathlib.Omega.{arith}
 use mathlib.Core.Path.{_≡_, refl, sym, _∙_}

@@ -99,11 +99,11 @@ impl Program {
     /// Runs the program on input that does not end, where nothing that it writes can be taken. It must stop.
     pub fn run_deaf(&self, input: &[u8], output: Deaf) -> io::Result<Option<Fault>> {
         let stdout = match output {
-            Deaf::Closed => Stdio::piped(),
+            // Closed before the program starts: its first write may come at once.
+            Deaf::Closed => Stdio::from(io::pipe()?.1),
             Deaf::Full => Stdio::from(File::options().write(true).open("/dev/full")?),
         };
         let mut child = self.command(Stdio::piped(), stdout)?.spawn()?;
-        drop(child.stdout.take());
         let pipe = child.stdin.take().map(speak);
         say(&pipe, input);
         match wait(&mut child) {

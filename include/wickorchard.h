@@ -28,8 +28,12 @@
  * caller's to say.
  *
  * A HEADER is five words (WICK_HEADER_WORDS), fields 0 to 4: source address, destination address, source port,
- * destination port, protocol. Ports are at most 65,535, the protocol is at most 255. A packet without ports has 0 for
- * both.
+ * destination port, protocol. Ports are at most 65,535, the protocol is at most 255.
+ *
+ * PACKETS WITHOUT PORTS. A later fragment (its fragment offset is not 0) has no ports, nor has ICMP or any other
+ * protocol without them. Such a packet has WICK_ABSENT_PORT in both port fields, and only rules with ports 0 to 65,535
+ * in both match it. Port 0 is a port like any other: with 0 such a packet would match rules for ports 0 to 1,023, and
+ * no call can tell.
  *
  * A TREE is its nodes, numbered from 0, and a pool of rule numbers. The root is node 0. A node is three words
  * (WICK_NODE_WORDS):
@@ -119,6 +123,7 @@ enum {
     WICK_LEAF = 5, /* the first word of a leaf */
     WICK_ADDRESS_BITS = 32,
     WICK_LARGEST_PORT = 65535,
+    WICK_ABSENT_PORT = 65536, /* a header's port that the packet does not have */
     WICK_LARGEST_PROTOCOL = 255,
     WICK_LARGEST_ACTION = 255,
     WICK_MOST_RULES = 512,

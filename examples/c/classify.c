@@ -1,4 +1,4 @@
-// Classifies headers by the policy in a folder.
+// Classifies headers by the policy in a folder. A packet without ports has 65536 for each.
 //
 //     classify DIR [SOURCE DESTINATION SOURCE_PORT DESTINATION_PORT PROTOCOL]..
 //

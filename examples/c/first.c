@@ -1,4 +1,5 @@
-// Says which rule of a rules or acl file decides about a packet, the lowest that matches, and its action.
+// Says which rule of a rules or acl file decides about a packet, the lowest that matches, and its action. A packet
+// without ports has 65536 for each.
 //
 //     first RULES SOURCE DESTINATION SOURCE_PORT DESTINATION_PORT PROTOCOL
 

@@ -3,7 +3,7 @@
 use Prim.Native.Nat.{ℕ, suc, _+_, _*_, _/_, _%_, _^_, _≤_, _<_}
 use native.Mathlib.Numerals.{add-one}
 use native.Mathlib.Omega.{arith}
-use mathlib.Core.Path.{_≡_, refl, sym, ap, _∙_}
+use mathlib.Core.Path.{_≡_, sym, ap, _∙_}
 use mathlib.Core.Logic.{_⊎_, inl, inr}
 use mathlib.Core.List.{List, [], _∷_}
 use lib.ListN.{length, getD, set, take}
@@ -11,11 +11,8 @@ use lib.Seq.{sets, getD-set-same, getD-set-other, getD-take, length-take-le, ext
 use Rattle.facts.proofs.Cases.{same-or-not}
 use Rattle.facts.proofs.Counted.{map-up-same}
 use Rattle.refusals.specs.declared.Verdict.the-variants.{Fine}
-use Rattle.fields.specs.declared.field.Field.{Field}
-use Rattle.fields.specs.declared.field.Field.the-variants.{Prefix, Range}
 use Rattle.fields.specs.Words.{addressBits, fieldCount}
-use Rattle.fields.specs.Prefixes.{prefixEnds}
-use Rattle.fields.specs.Fields.{fieldEnds}
+use Rattle.fields.proofs.Fields.{two-ends}
 use Rattle.rules.specs.Words.{ruleCount, formOf, fieldOf}
 use Rattle.rules.specs.Good.{listVerdict}
 use Rattle.rules.specs.Matching.{ruleBox}
@@ -43,13 +40,7 @@ pub record SidesFilled (rs ws : List ℕ) (n : ℕ) : Type 0 where
 pub sides-first : (rs ws : List ℕ) → SidesFilled rs ws 0
 sides-first rs ws = record { side = λ i h. absurd (omega arith) }
 
--- a field's ends are two numbers
-two-ends : (field : Field) → fieldEnds field ≡ getD (fieldEnds field) 0 0 ∷ getD (fieldEnds field) 1 0 ∷ []
-unfolding prefixEnds
-two-ends (Prefix address len) = refl
-two-ends (Range low high largest) = refl
-
--- so are a side's
+-- a side's ends are two numbers, as those of a field are
 side-two : (rs : List ℕ) (i : ℕ) → sideOf rs i ≡ getD (sideOf rs i) 0 0 ∷ getD (sideOf rs i) 1 0 ∷ []
 side-two rs i =
     rw (box-ends rs (i / fieldCount) (i % fieldCount) (omega arith))

@@ -4,6 +4,7 @@ use Rattle.claims.proofs.Demand1.{code-claim, calls-claim}
 use Rattle.claims.proofs.Demand2.{twins-claim, matching-claim, by-tree-claim}
 use Rattle.claims.proofs.Demand2.{rule-file-claim, rule-kind-claim}
 use Rattle.claims.proofs.Demand2.{tree-file-claim, part-file-claim, tree-or-part-claim}
+use Rattle.claims.proofs.Absent.{absent-claim}
 use Rattle.claims.proofs.Actions.{actions-claim}
 use Rattle.claims.proofs.Demand3.{tree-check-claim}
 use Rattle.claims.proofs.Parts.{part-check-claim}
@@ -19,6 +20,7 @@ claims =
       calls = calls-claim;
       twins = twins-claim;
       matching = matching-claim;
+      absent = absent-claim;
       actions = actions-claim;
       by-tree = by-tree-claim;
       rule-file = rule-file-claim;

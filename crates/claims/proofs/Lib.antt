@@ -1,6 +1,7 @@
 -- The claims, each proved in a line or two from the laws of the crates below.
 pub mod Demand1
 pub mod Demand2
+pub mod Absent
 pub mod Actions
 pub mod Demand3
 pub mod Parts

@@ -8,6 +8,7 @@ use Rattle.fields.specs.Cuts.{divides, leftOf, rightOf}
 use Rattle.fields.specs.Headers.{fieldVerdict, headerVerdict}
 use Rattle.fields.specs.Prefixes.{span, prefixGood, prefixAgrees, prefixEnds}
 use Rattle.fields.specs.Ranges.{rangeGood, rangeHolds, rangesMeet}
+use Rattle.fields.specs.Ports.{wholePorts, portsMatch, portsEnd}
 use Rattle.rules.specs.Twins.{sameWords, earlierTwin, twinVerdict, twinsVerdict}
 use Rattle.rules.specs.Good.{fieldsGood, goodTo, ruleVerdict, rulesVerdict, listVerdictTo}
 use Rattle.rules.specs.Lacking.{lacking, lowestLacking}
@@ -25,8 +26,8 @@ use Rattle.claims.specs.Worked.{AllHold, table}
 pub worked : AllHold table
 unfolding allBelow lowest upFrom keep has rises allUnder refuseUnless roomVerdict _then_ inTurn _giving_ meets
     divides leftOf rightOf fieldVerdict headerVerdict span prefixGood prefixAgrees prefixEnds rangeGood
-    rangeHolds rangesMeet sameWords earlierTwin twinVerdict twinsVerdict fieldsGood goodTo ruleVerdict rulesVerdict
-    listVerdictTo lacking lowestLacking matches matching ruleBox entries
+    rangeHolds rangesMeet wholePorts portsMatch portsEnd sameWords earlierTwin twinVerdict twinsVerdict fieldsGood
+    goodTo ruleVerdict rulesVerdict listVerdictTo lacking lowestLacking matches matching ruleBox entries
     leaving written allVerdict sizeVerdict sideOf stepOf walk walkOf leafVerdict reachVerdict leafList treeList
     lookedAt treeAllVerdict leafCount countsBelow leafSpelt nodeVerdict speltVerdict lackOf leafPart cutPart
     nodePart preorderOf rootPart wordsVerdict checkVerdict
@@ -80,10 +81,18 @@ worked = (
                 record { answers = refl },
               ),
               (
-                record { answers = refl },
+                (
+                  record { answers = refl; leaves = refl },
+                  record { answers = refl },
+                  record { answers = refl; leaves = refl },
+                  record { answers = refl },
+                ),
                 (
                   record { answers = refl },
-                  (record { answers = refl }, (record { answers = refl }, tt)),
+                  (
+                    record { answers = refl },
+                    (record { answers = refl }, (record { answers = refl }, tt)),
+                  ),
                 ),
               ),
             ),

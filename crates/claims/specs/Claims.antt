@@ -4,6 +4,7 @@ use mathlib.Core.List.{List}
 use Rattle.tree_check.specs.Serves.{Serves}
 use Rattle.claims.specs.Demand1.{Code, Calls}
 use Rattle.claims.specs.Demand2.{Twins, Matching, ByTree, RuleFile, RuleKind, TreeFile, PartFile, TreeOrPart}
+use Rattle.claims.specs.Absent.{Absent}
 use Rattle.claims.specs.Actions.{Actions}
 use Rattle.claims.specs.Demand3.{TreeCheck}
 use Rattle.claims.specs.Parts.{PartCheck}
@@ -17,6 +18,7 @@ pub record Claims : Type 2 where
   pub calls : Calls
   pub twins : Twins
   pub matching : Matching
+  pub absent : Absent
   pub actions : Actions
   pub by-tree : (rs ns es : List ℕ) → Serves rs ns es → ByTree rs ns es
   pub rule-file : RuleFile

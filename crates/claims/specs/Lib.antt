@@ -1,6 +1,7 @@
 -- What a reader may conclude: the scope's three demands, its worked policy, and what goes beyond. Statements only.
 pub mod Demand1
 pub mod Demand2
+pub mod Absent
 pub mod Actions
 pub mod Demand3
 pub mod Parts

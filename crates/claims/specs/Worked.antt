@@ -7,6 +7,7 @@ use mathlib.Core.List.{List, [], _∷_}
 use lib.ListN.{length}
 use Rattle.facts.specs.Lists.{written}
 use Rattle.refusals.specs.declared.Refusal.the-variants.{NodeWrong, LeafLacksRule}
+use Rattle.fields.specs.Words.{absentPort}
 use Rattle.rules.specs.declared.line.Listed.the-variants as line
 use Rattle.rules.specs.declared.line.First.the-variants as first
 use Rattle.rules.specs.LineAll.{LineAllSearched}
@@ -63,6 +64,7 @@ table =
     search (from 9 255 255 255 80 6) (2 ∷ []) 2 1 2 1 ∷
     search (from 10 255 255 255 80 6) (0 ∷ 2 ∷ []) 3 3 0 1 ∷
     search (from 11 0 0 0 80 6) (2 ∷ []) 3 1 2 1 ∷
+    search (from 10 1 2 3 absentPort 6) (2 ∷ []) 3 3 2 3 ∷
     check rules tree pool (Accepted 2 3) ∷
     check rules (nodes 184549375 2) (2 ∷ 0 ∷ 2 ∷ 2 ∷ []) (Refused (LeafLacksRule 3 1)) ∷
     check rules (nodes 167772159 3) pool (Refused (NodeWrong 2)) ∷

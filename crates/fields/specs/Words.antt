@@ -1,5 +1,7 @@
 -- The numbers that bound a header. Definitions only.
 --   addressBits    the bits of an address
+--   largestPort    the largest port, and so the largest end of a rule's range of ports
+--   absentPort     a header's port that is absent: the top of the field, over every port
 --   tops           the largest value of each field: source, destination, source port, destination port, protocol
 --   fieldCount     how many fields there are, and so words of a header
 --   topOf f        the largest value of field f
@@ -10,8 +12,14 @@ use lib.ListN.{length, getD}
 abbrev pub addressBits : ℕ
 addressBits = 32
 
+abbrev pub largestPort : ℕ
+largestPort = 65535
+
+abbrev pub absentPort : ℕ
+absentPort = 65536
+
 abbrev pub tops : List ℕ
-tops = (2 ^ addressBits - 1) ∷ (2 ^ addressBits - 1) ∷ 65535 ∷ 65535 ∷ 255 ∷ []
+tops = (2 ^ addressBits - 1) ∷ (2 ^ addressBits - 1) ∷ absentPort ∷ absentPort ∷ 255 ∷ []
 
 abbrev pub fieldCount : ℕ
 fieldCount = length tops

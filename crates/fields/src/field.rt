@@ -1,4 +1,7 @@
-// One field of a rule: a prefix, or a range with the largest end that it may have.
+// One field of a rule: a prefix, a range with the largest end that it may have, or a range of ports.
+use crate::port::LARGEST_PORT;
+use crate::port::ports_end;
+use crate::port::ports_match;
 use crate::prefix::prefix_agrees;
 use crate::prefix::prefix_good;
 use crate::prefix::prefix_last;
@@ -12,6 +15,7 @@ ghost use Rattle.fields.specs.Fields.{fieldGood, fieldMatches, fieldBoun
 pub enum Field {
     Prefix { address: u32, len: u32 },
     Range { low: u32, high: u32, largest: u32 },
+    Ports { low: u32, high: u32 },
 }
 
 // Whether the prefix is good, or the range is and ends no later than it may.
@@ -21,10 +25,12 @@ pub fn field_good(field: Field) -> bool
     match field {
         Field::Prefix { address, len } => prefix_good(address, len),
         Field::Range { low, high, largest } => range_good(low, high, largest),
+        Field::Ports { low, high } => range_good(low, high, LARGEST_PORT),
     }
 }
 
-// Whether the first bits of the word agree with the prefix, or the word lies in the range.
+// Whether the first bits of the word agree with the prefix, or the word lies in the range. An absent port matches all
+// ports alone.
 pub fn field_matches(field: Field, word: u32) -> bool
     ensures { λ r. ⌜ r ≡ fieldMatches field word ⌝ }
 {
@@ -35,11 +41,12 @@ pub fn field_matches(field: Field, word: u32) -> bool
             high,
             largest: _,
         } => range_holds(low, high, word),
+        Field::Ports { low, high } => ports_match(low, high, word),
     }
 }
 
-// The low and the high end of the range that a good field stands for. Any other prefix ends where its range would, but
-// no later than at the largest address.
+// The low and the high end of the range that a good field stands for; that of all ports goes on to the absent one. A
+// prefix that is not good ends where its range would, but no later than at the largest address.
 pub fn field_bounds(field: Field) -> [u32; 2]
     ensures { λ r. ⌜ r ≡ fieldBounds field ⌝ }
 {
@@ -50,6 +57,7 @@ pub fn field_bounds(field: Field) -> [u32; 2]
             high,
             largest: _,
         } => [low, high],
+        Field::Ports { low, high } => [low, ports_end(low, high)],
     }
 }
 
@@ -66,5 +74,6 @@ pub fn field_meets(field: Field, ends: [u32; 2]) -> bool
             high,
             largest: _,
         } => ranges_meet(low, high, from, to),
+        Field::Ports { low, high } => ranges_meet(low, ports_end(low, high), from, to),
     }
 }

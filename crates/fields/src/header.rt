@@ -1,4 +1,6 @@
 // Headers: five words, fields 0 to 4.
+use crate::port::ABSENT_PORT;
+use crate::prefix::LAST_WORD;
 use refusals::Refusal;
 use refusals::Verdict;
 ghost use mathlib.Core.Path.{_≡_};
@@ -8,7 +10,7 @@ ghost use Rattle.fields.specs.Headers.{headerVerdict};
 pub const FIELDS: usize = 5;
 
 // The largest value of each field: source, destination, source port, destination port, protocol.
-pub(crate) const TOPS: [u32; FIELDS] = [4_294_967_295, 4_294_967_295, 65_535, 65_535, 255];
+pub(crate) const TOPS: [u32; FIELDS] = [LAST_WORD, LAST_WORD, ABSENT_PORT, ABSENT_PORT, 255];
 
 // Whether a header is legal. The length is looked at first, and then the fields, from the lowest.
 pub fn header_verdict(header: &[u32]) -> Verdict

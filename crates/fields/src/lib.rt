@@ -1,4 +1,4 @@
-// One header and one box: what bounds each field, prefixes, ranges, fields of rules, boxes that meet, and cuts.
+// One header and one box: what bounds each field, prefixes, ranges, ports, fields of rules, boxes that meet, and cuts.
 //   header::header_verdict     whether a header is legal: 3
 //   prefix::prefix_good        whether an address and a length make a good prefix
 //   prefix::prefix_agrees      whether the first bits of a word are those of a prefix
@@ -6,7 +6,7 @@
 //   range::range_good          whether two ends make a good range
 //   range::range_holds         whether a word lies in a range
 //   range::ranges_meet         whether two ranges meet
-//   field::field_good          whether a field of a rule, a prefix or a range, is good
+//   field::field_good          whether a field of a rule, a prefix, a range or a range of ports, is good
 //   field::field_matches       whether a word matches it
 //   field::field_bounds        the ends of its range
 //   field::field_meets         whether its range meets another
@@ -18,5 +18,6 @@
 pub mod bounds;
 pub mod field;
 pub mod header;
+pub mod port;
 pub mod prefix;
 pub mod range;

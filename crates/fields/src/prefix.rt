@@ -12,7 +12,7 @@ pub const ADDRESS_BITS: u32 = 32;
 const ALL_WORDS: u64 = 4_294_967_296;
 
 // The last of them.
-const LAST_WORD: u32 = 4_294_967_295;
+pub(crate) const LAST_WORD: u32 = 4_294_967_295;
 
 // The most places by which a u64 can be shifted.
 const MOST_PLACES: u32 = 63;

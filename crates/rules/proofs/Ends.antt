@@ -10,7 +10,7 @@ use Rattle.fields.specs.Prefixes.{prefixEnds}
 use Rattle.fields.specs.Fields.{fieldBounds, fieldEnds}
 use Rattle.fields.proofs.Fields.{bounds-of-good}
 use Rattle.rules.specs.declared.words.Form.{Form}
-use Rattle.rules.specs.declared.words.Form.the-variants.{Prefix, Range}
+use Rattle.rules.specs.declared.words.Form.the-variants.{Prefix, Range, Ports}
 use Rattle.rules.specs.Words.{ruleCount, ruleThere, formOf, fieldOf}
 use Rattle.rules.specs.Good.{good}
 use Rattle.rules.specs.Matching.{ruleBox}
@@ -41,6 +41,7 @@ low-below :
 unfolding prefixEnds
 low-below rs r (Prefix address len) most h = h _
 low-below rs r (Range low high largest) most h = h _
+low-below rs r (Ports low high) most h = h _
 
 -- the ends of a field of a good rule, in words of 32 bits, are those of its box in that field
 pub ends-of-good :

@@ -14,7 +14,7 @@ use Rattle.facts.proofs.Below.{all-below-at, all-below-same}
 use Rattle.fields.specs.Words.{fieldCount}
 use Rattle.fields.specs.Fields.{fieldGood, fieldMatches}
 use Rattle.rules.specs.declared.words.Form.{Form}
-use Rattle.rules.specs.declared.words.Form.the-variants.{Prefix, Range}
+use Rattle.rules.specs.declared.words.Form.the-variants.{Prefix, Range, Ports}
 use Rattle.rules.specs.Words.{ruleWords, matchWords, wordOf, formOf, fieldOf}
 use Rattle.rules.specs.Good.{fieldsGood, goodTo}
 use Rattle.rules.specs.Matching.{matches}
@@ -23,6 +23,7 @@ use Rattle.rules.specs.Matching.{matches}
 abbrev inRule : Form → Bool
 inRule (Prefix address len) = ltb address matchWords && ltb len matchWords
 inRule (Range low high largest) = ltb low matchWords && ltb high matchWords
+inRule (Ports low high) = ltb low matchWords && ltb high matchWords
 
 in-rule : (f : ℕ) → f < fieldCount → inRule (formOf f) ≡ true
 unfolding allBelow
@@ -46,6 +47,11 @@ pub range-words :
     {f j k largest : ℕ} → f < fieldCount → formOf f ≡ Range j k largest → (j < ruleWords) × (k < ruleWords)
 range-words {f} l e = of-rule (two-words _ _ (rw e at (in-rule f l)))
 
+-- a range of ports names two words of a rule
+pub ports-words :
+    {f j k : ℕ} → f < fieldCount → formOf f ≡ Ports j k → (j < ruleWords) × (k < ruleWords)
+ports-words {f} l e = of-rule (two-words _ _ (rw e at (in-rule f l)))
+
 -- two rules that have the same words, their actions aside
 module _ (a b : List ℕ) (i j : ℕ) (h : (k : ℕ) → k < matchWords → wordOf a i k ≡ wordOf b j k) where
   same-field : (f : ℕ) → f < fieldCount → fieldOf (formOf f) a i ≡ fieldOf (formOf f) b j
@@ -54,6 +60,7 @@ module _ (a b : List ℕ) (i j : ℕ) (h : (k : ℕ) → k < matchWords → word
       go : (form : Form) → inRule form ≡ true → fieldOf form a i ≡ fieldOf form b j
       go (Prefix address len) e = let t = two-words address len e in rw (h address (t .0), h len (t .1))
       go (Range low high largest) e = let t = two-words low high e in rw (h low (t .0), h high (t .1))
+      go (Ports low high) e = let t = two-words low high e in rw (h low (t .0), h high (t .1))
 
   -- their fields are alike good
   fields-same : fieldsGood a i ≡ fieldsGood b j

@@ -9,6 +9,7 @@ pub mod Lists
 pub mod Actions
 pub mod Forms
 pub mod Meaning
+pub mod Absent
 pub mod Ends
 pub mod AnyWords
 pub mod Lacks

@@ -15,16 +15,14 @@ pub(crate) const MATCH_WORDS: usize = 10;
 // The most rules that a list holds.
 pub const MOST_RULES: usize = 512;
 
-// The largest end of a rule's range of ports, and of protocols.
-const LARGEST_PORT: u32 = 65_535;
-
+// The largest end of a rule's range of protocols.
 const LARGEST_PROTOCOL: u32 = 255;
 
 // The largest action of a good rule.
 pub const LARGEST_ACTION: u32 = 255;
 
-// How a rule gives a field: by a prefix, the words of its address and of its length; or by a range, the words of its
-// two ends, and the largest end that it may have.
+// How a rule gives a field: by a prefix, the words of its address and of its length; by a range, the words of its two
+// ends, and the largest end that it may have; or by a range of ports, the words of its two ends.
 enum Form {
     Prefix {
         address: usize,
@@ -35,22 +33,18 @@ enum Form {
         high: usize,
         largest: u32,
     },
+    Ports {
+        low: usize,
+        high: usize,
+    },
 }
 
 // The form of each field: source, destination, source port, destination port, protocol.
 const FORMS: [Form; FIELDS] = [
     Form::Prefix { address: 0, len: 1 },
     Form::Prefix { address: 2, len: 3 },
-    Form::Range {
-        low: 4,
-        high: 5,
-        largest: LARGEST_PORT,
-    },
-    Form::Range {
-        low: 6,
-        high: 7,
-        largest: LARGEST_PORT,
-    },
+    Form::Ports { low: 4, high: 5 },
+    Form::Ports { low: 6, high: 7 },
     Form::Range {
         low: 8,
         high: 9,
@@ -80,6 +74,10 @@ pub(crate) fn field_of(rules: &[u32], r: usize, f: usize) -> Field
             low: word_of(rules, r, low),
             high: word_of(rules, r, high),
             largest,
+        },
+        Form::Ports { low, high } => Field::Ports {
+            low: word_of(rules, r, low),
+            high: word_of(rules, r, high),
         },
     }
 }

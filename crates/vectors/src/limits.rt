@@ -52,6 +52,50 @@ pub(crate) fn past_length_32() {
     );
 }
 
+// Destination ports 1 to 65535 and then all: 65536 is no port, and only all of them match it.
+pub(crate) fn ports() {
+    let list = [
+        0,
+        0,
+        0,
+        0,
+        0,
+        65535,
+        1,
+        65535,
+        0,
+        255,
+        0,
+        0,
+        0,
+        0,
+        0,
+        0,
+        65535,
+        0,
+        65535,
+        0,
+        255,
+        0,
+    ];
+    search_list(b"port 65535", &list, &[0, 0, 0, 65535, 6]);
+    search_list(b"no port", &list, &[0, 0, 0, 65536, 6]);
+    let nodes = [3, 65535, 2, 5, 0, 2, 5, 2, 1];
+    check_tree(b"a cut at 65535", &list, &nodes, &[0, 1, 1]);
+    let lacking = [3, 65535, 2, 5, 0, 2, 5, 2, 0];
+    check_tree(
+        b"a cut at 65535, lacking right of it",
+        &list,
+        &lacking,
+        &[0, 1],
+    );
+    let empty = [3, 65536, 2, 5, 0, 2, 5, 2, 1];
+    check_tree(b"a cut at 65536", &list, &empty, &[0, 1, 1]);
+    let past = [0, 0, 0, 0, 0, 65536, 0, 65536, 0, 255, 0];
+    check_list(b"ports to 65536", &past);
+    scan_list(b"ports to 65536, no port", &past, &[0, 0, 65536, 65536, 6]);
+}
+
 // 512 rules: only the last holds protocol 6. Then the last is not good.
 pub(crate) fn rules_512() {
     let mut list = many();

@@ -5,7 +5,7 @@
 //   worked    the worked policy: its headers, its tree, its files
 //   twins     rules with the words of an earlier one, in lists and in files
 //   actions   the worked policy with actions, in lists and in files
-//   limits    lengths 32 and 0, 512 and 513 rules, 63 and 64 cuts
+//   limits    lengths 32 and 0, the largest and the absent port, 512 and 513 rules, 63 and 64 cuts
 //   policy    the words of the worked policy
 //   calls     the searches and the checks, and the line that says the answer
 //   files     the readers and the writers, likewise
@@ -21,6 +21,7 @@ mod worked;
 
 fn main() {
     worked::headers();
+    worked::absent_ports();
     worked::refused_headers();
     worked::short_room();
     worked::checks();
@@ -36,6 +37,7 @@ fn main() {
     limits::length_32();
     limits::length_0();
     limits::past_length_32();
+    limits::ports();
     limits::rules_512();
     limits::rules_513();
     limits::cuts_63();

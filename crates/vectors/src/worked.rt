@@ -30,10 +30,22 @@ pub(crate) fn headers() {
     search(b"11.0.0.0 port 80 protocol 6", &web(0x0b000000));
 }
 
+// Headers without a destination port, and without any.
+pub(crate) fn absent_ports() {
+    search(
+        b"10.1.2.3 without a destination port",
+        &header(0x0a010203, 65536, 6),
+    );
+    search(
+        b"10.1.2.3 without ports",
+        &[0x0a010203, 0xc0a80001, 65536, 65536, 6],
+    );
+}
+
 // Headers that are not legal.
 pub(crate) fn refused_headers() {
     search(b"protocol 256", &header(0x0a010203, 80, 256));
-    search(b"port 65536", &header(0x0a010203, 65536, 6));
+    search(b"port 65537", &header(0x0a010203, 65537, 6));
     search(
         b"a header of four words",
         &[0x0a010203, 0xc0a80001, 40000, 80],

@@ -6,10 +6,12 @@
 //!
 //! BEFORE.so is made by the first two lines in a clone of the tree as it was before. Both libraries are loaded into
 //! this program. A build from before rules had actions takes ten words for a rule: each is lent the list in its own
-//! width. Their answers and the words that they leave are compared first. Then they take turns, and each begins as
-//! often as the other, so that what slows the machine down for a while slows down both. The middle turn counts; on a
-//! machine that is busy with other programs the quicker turns tell more. A library beside a copy of itself shows how
-//! far two times of the same code lie apart.
+//! width. One from before ports could be absent refuses a header without them: all headers here have both ports.
+//!
+//! Their answers and the words that they leave are compared first. Then they take turns, and each begins as often as
+//! the other, so that what slows the machine down for a while slows down both. The middle turn counts; on a machine
+//! that is busy with other programs the quicker turns tell more. A library beside a copy of itself shows how far two
+//! times of the same code lie apart.
 
 use std::hint::black_box;
 use std::time::{Duration, Instant};

@@ -16,7 +16,7 @@ mod scans;
 use std::hint::black_box;
 use std::time::{Duration, Instant};
 
-use wickorchard::limits::RULE_WORDS;
+use wickorchard::limits::{ABSENT_PORT, LARGEST_PORT, RULE_WORDS};
 use wickorchard::raw::{wick_tree_all, wick_tree_check, wick_tree_first};
 
 const TURNS: usize = 9;
@@ -64,11 +64,23 @@ fn matches(rule: &[u32], header: &[u32; 5]) -> bool {
     let agree = |address: u32, from: u32, length: u32| {
         (u64::from(address) >> (32 - length)) == (u64::from(from) >> (32 - length))
     };
+    // The rule is good, so an absent port lies in no range; the range of all ports takes it.
+    let takes = |port: u32, low: u32, high: u32| {
+        (low..=high).contains(&port) || (port == ABSENT_PORT && low == 0 && high == LARGEST_PORT)
+    };
     agree(header[0], rule[0], rule[1])
         && agree(header[1], rule[2], rule[3])
-        && (rule[4]..=rule[5]).contains(&header[2])
-        && (rule[6]..=rule[7]).contains(&header[3])
+        && takes(header[2], rule[4], rule[5])
+        && takes(header[3], rule[6], rule[7])
         && (rule[8]..=rule[9]).contains(&header[4])
+}
+
+/// The headers, and each of them without its source port, without its destination port and without both.
+fn and_without_ports(headers: &[[u32; 5]]) -> impl Iterator<Item = [u32; 5]> + '_ {
+    headers.iter().flat_map(|&[source, destination, from, to, protocol]| {
+        [[from, to], [ABSENT_PORT, to], [from, ABSENT_PORT], [ABSENT_PORT; 2]]
+            .map(|[from, to]| [source, destination, from, to, protocol])
+    })
 }
 
 fn walk<'a>(tree: &'a Tree, header: &[u32; 5]) -> &'a [u32] {
@@ -155,13 +167,13 @@ fn main() {
         (0..HEADERS).map(|_| [draw(), draw(), draw() & 65_535, draw() & 65_535, draw() & 255]).collect();
     let mut out = [0_u32; 8];
     let mut answer = [0_u64; 8];
-    for header in &headers {
-        our_first(&tree, header, &mut answer);
-        let first = plain_first(&tree, header).map_or(0, |rule| u64::from(rule) + 1);
+    for header in and_without_ports(&headers) {
+        our_first(&tree, &header, &mut answer);
+        let first = plain_first(&tree, &header).map_or(0, |rule| u64::from(rule) + 1);
         assert_eq!(answer, [0, 0, 0, first, 11, answer[5], 0, 0]);
-        our_all(&tree, header, &mut out, &mut answer);
+        our_all(&tree, &header, &mut out, &mut answer);
         let mut plain = [0_u32; 8];
-        let count = plain_all(&tree, header, &mut plain);
+        let count = plain_all(&tree, &header, &mut plain);
         assert_eq!(answer, [0, 0, 0, count as u64, 11, 4, 0, 0]);
         assert_eq!(out[..count], plain[..count]);
     }

@@ -1,7 +1,7 @@
 //! A plain Rust compiler of the tree that `wick_build` builds, as a user would write it for speed: the boxes are made
 //! once, a box's rules are parted by the cut's field alone, and the words grow in vectors. It trusts the list.
 
-use wickorchard::limits::RULE_WORDS;
+use wickorchard::limits::{ABSENT_PORT, LARGEST_PORT, LARGEST_PROTOCOL, RULE_WORDS};
 
 /// The most words of the nodes, and of the pool.
 const LIMITS: [usize; 2] = [6_141, 4_096];
@@ -12,7 +12,7 @@ const MOST_CUTS: u32 = 63;
 /// For each field the low and the high end.
 type Sides = [[u32; 2]; 5];
 
-const ROOT: Sides = [[0, u32::MAX], [0, u32::MAX], [0, 65_535], [0, 65_535], [0, 255]];
+const ROOT: Sides = [[0, u32::MAX], [0, u32::MAX], [0, ABSENT_PORT], [0, ABSENT_PORT], [0, LARGEST_PROTOCOL]];
 
 /// The nodes and the pool.
 pub type Words = (Vec<u32>, Vec<u32>);
@@ -28,7 +28,10 @@ pub fn plain_build(rules: &[u32]) -> Option<Words> {
 
 fn sides_of(rule: &[u32]) -> Sides {
     let prefix = |address: u32, length: u32| [address, address | (u64::from(u32::MAX) >> length) as u32];
-    [prefix(rule[0], rule[1]), prefix(rule[2], rule[3]), [rule[4], rule[5]], [rule[6], rule[7]], [rule[8], rule[9]]]
+    // The range of all ports reaches the absent one.
+    let ports = |low: u32, high: u32| [low, if [low, high] == [0, LARGEST_PORT] { ABSENT_PORT } else { high }];
+    let [source, destination] = [prefix(rule[0], rule[1]), prefix(rule[2], rule[3])];
+    [source, destination, ports(rule[4], rule[5]), ports(rule[6], rule[7]), [rule[8], rule[9]]]
 }
 
 struct Growing<'a> {

@@ -10,7 +10,7 @@ use std::time::Duration;
 use wickorchard::calls::{line_all, line_first, scan_all, scan_first, Match};
 use wickorchard::limits::{MOST_RULES, RULE_WORDS};
 
-use crate::{matches, timed};
+use crate::{and_without_ports, matches, timed};
 
 const HEADERS: usize = 4_096;
 const ROUNDS: usize = 4;
@@ -70,14 +70,15 @@ fn kinds(draw: &mut impl FnMut() -> u32) -> Vec<Kind> {
     ]
 }
 
-/// A good rule: two prefixes of any length, three ranges, and action 0.
+/// A good rule: two prefixes of any length, three ranges, and action 0. No range of ports ends at 65,535, where a
+/// compiler from before ports could be absent has no cut value.
 pub fn drawn_rule(draw: &mut impl FnMut() -> u32) -> [u32; RULE_WORDS] {
     let mut rule = [0; RULE_WORDS];
     for prefix in rule[..4].chunks_exact_mut(2) {
         let length = draw() % 33;
         prefix.copy_from_slice(&[((u64::from(draw()) >> (32 - length)) << (32 - length)) as u32, length]);
     }
-    for (range, largest) in rule[4..10].chunks_exact_mut(2).zip([65_535, 65_535, 255]) {
+    for (range, largest) in rule[4..10].chunks_exact_mut(2).zip([65_534, 65_534, 255]) {
         range.copy_from_slice(&[draw() % (largest + 1), draw() % (largest + 1)]);
         range.sort_unstable();
     }
@@ -97,12 +98,12 @@ pub fn drawn_inside(rule: &[u32], draw: &mut impl FnMut() -> u32) -> Header {
 pub fn time(draw: &mut impl FnMut() -> u32) {
     for Kind { name, rules, headers } in kinds(draw) {
         let [mut out, mut plain] = [[0; MOST_RULES]; 2];
-        for header in &headers {
-            let first = plain_first(&rules, header).map(|rule| Match { rule, action: 0 });
-            assert_eq!((scan_first(&rules, header), line_first(&rules, header)), (Ok(first), Ok(first)));
-            let all = plain_all(&rules, header, &mut plain);
-            assert_eq!(scan_all(&rules, header, &mut out), Ok(all));
-            assert_eq!(line_all(&rules, header, &mut out), Ok(all));
+        for header in and_without_ports(&headers) {
+            let first = plain_first(&rules, &header).map(|rule| Match { rule, action: 0 });
+            assert_eq!((scan_first(&rules, &header), line_first(&rules, &header)), (Ok(first), Ok(first)));
+            let all = plain_all(&rules, &header, &mut plain);
+            assert_eq!(scan_all(&rules, &header, &mut out), Ok(all));
+            assert_eq!(line_all(&rules, &header, &mut out), Ok(all));
         }
         println!("512 rules: {name}");
         say(

@@ -1,7 +1,7 @@
 //! Every kind of damage that makes a good rule not good, and a good header refused.
 
 use crate::headers::{Header, LARGEST};
-use crate::lists::{Rule, ACTION};
+use crate::lists::{Rule, ACTION, LARGEST_END};
 
 /// A good rule with one kind of damage, and what the damage is.
 pub struct Damaged {
@@ -44,15 +44,17 @@ fn stray_bits(rule: &Rule, field: usize, all: &mut Vec<Damaged>) {
 /// Ranges that are turned round, or pass the limit with one end or both.
 fn wrong_ranges(rule: &Rule, field: usize, all: &mut Vec<Damaged>) {
     let (low, high) = (rule[2 * field], rule[2 * field + 1]);
-    let over = LARGEST[field] + 1;
+    let largest = LARGEST_END[field];
+    let over = largest + 1;
     let ends = [
         (high + 1, high),
         (1, 0),
-        (LARGEST[field], LARGEST[field] - 1),
-        (LARGEST[field], 0),
+        (largest, largest - 1),
+        (largest, 0),
+        (0, over),
         (low, over),
         (over, over),
-        (over, LARGEST[field]),
+        (over, largest),
         (low, over + high),
         (over + low, over + high),
         (over + low, high),

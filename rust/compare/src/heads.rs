@@ -1,6 +1,6 @@
 //! Input lines of the program: head lines, and lines of every kind that is refused.
 
-use crate::headers::{Header, WORKED};
+use crate::headers::{Header, PORTS, WORKED};
 use crate::text_damages::{byte_damages, number_damages, numbers, word_damages, words};
 use crate::texts::{File, Text};
 
@@ -23,8 +23,20 @@ pub fn good() -> Vec<String> {
     let mut lines = Vec::new();
     for source in ["10.1.2.3", "10.2.0.1", "9.255.255.255", "10.255.255.255", "11.0.0.0", "0.0.0.0", "255.255.255.255"]
     {
-        for rest in ["80\t6", "443\t6", "1023\t6", "1024\t6", "80\t17", "0\t0", "65535\t255"] {
+        for rest in ["80\t6", "443\t6", "1023\t6", "1024\t6", "80\t17", "0\t0", "65535\t255", "65536\t6"] {
             lines.push(format!("head\t{source}\t192.168.0.1\t40000\t{rest}\n"));
+        }
+    }
+    lines
+}
+
+/// Lines with 65,535, 65,536 and 65,537 in each port and in both: the largest port, none, and a number too large.
+pub fn about_absent_ports() -> Vec<String> {
+    let mut lines = Vec::new();
+    let [source, destination] = PORTS.map(|field| [WORKED[field], 65_535, 65_536, 65_537]);
+    for source in source {
+        for destination in destination {
+            lines.push(head(&[WORKED[0], WORKED[1], source, destination, WORKED[4]]) + "\n");
         }
     }
     lines
@@ -33,11 +45,12 @@ pub fn good() -> Vec<String> {
 /// Good lines, and lines with every kind of fault.
 pub fn several() -> Vec<String> {
     let mut lines = good();
+    lines.extend(about_absent_ports());
     let faults = ["", "\0", "\r", "head", "hit\t1\t0", "end\t3", " head", "head\t", "\t", "x", "refused\t9\t1\t0"];
     lines.extend(faults.map(|fault| format!("{fault}\n")));
     lines.extend(["\r\n", "\0\n", " \n", "\t\n", "\t6\n"].map(|end| worked_line().replace('\n', end)));
     let tails =
-        ["65536\t6", "65535\t256", "4294967295\t6", "4294967296\t6", "65616\t6", "80\t262", "080\t6", "\t6", "80"];
+        ["65537\t6", "65536\t256", "4294967295\t6", "4294967296\t6", "65616\t6", "80\t262", "080\t6", "\t6", "80"];
     lines.extend(tails.map(|tail| format!("head\t10.1.2.3\t192.168.0.1\t40000\t{tail}\n")));
     lines.extend((60..70).flat_map(|length| [long_head(length), "x".repeat(length)]).map(|line| line + "\n"));
     lines

@@ -1,16 +1,19 @@
 //! Good lists of rules: the worked policy, and lists drawn so that few, many or neighbouring rules match. None has
 //! twins. Half of the drawn lists have actions.
 
-use oracle::rules::{FIELD_WORDS, RULE_WORDS};
+use oracle::rules::{FIELD_WORDS, LARGEST_PORT, RULE_WORDS};
 
 use crate::draws::Draws;
-use crate::headers::{self, Header, LARGEST};
+use crate::headers::{self, Header};
 
 /// The words of a rule, of which the last is its action.
 pub type Rule = [u32; RULE_WORDS];
 
 /// The word of a rule that is its action.
 pub const ACTION: usize = 10;
+
+/// The largest end of a good rule's range in each field. A header's port may be one more.
+pub const LARGEST_END: [u32; 5] = [u32::MAX, u32::MAX, LARGEST_PORT, LARGEST_PORT, 255];
 
 /// The rule that matches every header, with action 0.
 pub const EVERYTHING: Rule = [0, 0, 0, 0, 0, 65_535, 0, 65_535, 0, 255, 0];
@@ -136,15 +139,19 @@ fn around(draws: &mut Draws, point: &Header) -> Rule {
     for field in 0..5 {
         let pair = match field {
             0 | 1 => prefix(point[field], length(draws)),
-            _ => range_around(draws, point[field], LARGEST[field]),
+            _ => range_around(draws, point[field], LARGEST_END[field]),
         };
         rule[2 * field..2 * field + 2].copy_from_slice(&pair);
     }
     rule
 }
 
-/// A range that holds the value; once in four it begins or ends there, or is the whole field.
+/// A range that holds the value; once in four it begins or ends there, or is the whole field. An absent port, which is
+/// over the largest end, is held by the whole field only.
 fn range_around(draws: &mut Draws, value: u32, largest: u32) -> [u32; 2] {
+    if value > largest {
+        return [0, largest];
+    }
     let low = draws.between(0, value);
     let high = draws.between(value, largest);
     match draws.below(16) {
@@ -162,14 +169,17 @@ fn beside(draws: &mut Draws, point: &Header) -> Rule {
     let field = draws.below(5);
     let pair = match field {
         0 | 1 => sibling(draws, point[field]),
-        _ => range_beside(draws, point[field], LARGEST[field]),
+        _ => range_beside(draws, point[field], LARGEST_END[field]),
     };
     rule[2 * field..2 * field + 2].copy_from_slice(&pair);
     rule
 }
 
-/// A range that ends just below the value or begins just above it.
+/// A range that ends just below the value or begins just above it. Below an absent port it is not the whole field.
 fn range_beside(draws: &mut Draws, value: u32, largest: u32) -> [u32; 2] {
+    if value > largest {
+        return [draws.between(1, largest), largest];
+    }
     let below = value == largest || (value > 0 && draws.once_in(2));
     if below {
         [draws.between(0, value - 1), value - 1]

@@ -24,6 +24,7 @@ mod lists;
 #[allow(unsafe_code)]
 mod mapping;
 mod mismatch;
+mod old_trees;
 mod part_damages;
 mod placed;
 mod process;

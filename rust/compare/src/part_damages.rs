@@ -3,6 +3,7 @@
 use oracle::rules::RULE_WORDS;
 
 use crate::draws::Draws;
+use crate::lists::LARGEST_END;
 use crate::trees::Policy;
 
 /// The first so many nodes of a tree that may be damaged: as a stop of it, with the pool words that the leaves among
@@ -101,7 +102,7 @@ pub fn change(part: &mut Policy, draws: &mut Draws) {
             // Another box for one of the rules.
             let rule = draws.below(part.rules.len() / RULE_WORDS);
             part.rules[RULE_WORDS * rule + 6] = 0;
-            part.rules[RULE_WORDS * rule + 7] = draws.between(0, 65_535);
+            part.rules[RULE_WORDS * rule + 7] = draws.between(0, LARGEST_END[3]);
         }
         _ => part.nodes[3 * node + 1] ^= 1 << draws.below(32),
     }

@@ -2,8 +2,7 @@
 //! box. None has twins, and half of the drawn ones have actions.
 
 use crate::draws::Draws;
-use crate::headers::LARGEST;
-use crate::lists::{self, Rule, EVERYTHING};
+use crate::lists::{self, Rule, EVERYTHING, LARGEST_END};
 
 /// Everything, but for these two words of this field.
 pub fn with(field: usize, pair: [u32; 2]) -> Rule {
@@ -78,7 +77,7 @@ pub fn list(draws: &mut Draws, size: usize) -> Vec<Rule> {
         };
         while lists::has(&rules, &rule) {
             let field = draws.below(5);
-            fields[field].values.push(draws.between(0, LARGEST[field]));
+            fields[field].values.push(draws.between(0, LARGEST_END[field]));
             rule = put(rule, field, pair_of(draws, field, &fields[field].values));
         }
         rules.push(rule);
@@ -89,7 +88,7 @@ pub fn list(draws: &mut Draws, size: usize) -> Vec<Rule> {
 
 /// From one value to 40, anywhere or near an end of the field, with neighbours for some.
 fn values_of(draws: &mut Draws, field: usize) -> Vec<u32> {
-    let largest = LARGEST[field];
+    let largest = LARGEST_END[field];
     let count = draws.pick(&[1, 2, 4, 10, 40]);
     let mut values = Vec::new();
     for _ in 0..count {
@@ -115,7 +114,7 @@ fn pair_of(draws: &mut Draws, field: usize, values: &[u32]) -> [u32; 2] {
         (0 | 1, _) => lists::prefix(one, draws.between(0, 32)),
         (_, 0) => [one, one],
         (_, 1) => [0, one],
-        (_, 2) => [one, LARGEST[field]],
+        (_, 2) => [one, LARGEST_END[field]],
         _ => [one.min(other), one.max(other)],
     }
 }

@@ -1,6 +1,7 @@
 //! Boxes: a low and a high for each of the five fields, both ends included.
 
-use crate::rules::{Prefix, Range, Rule, LARGEST_PORT, LARGEST_PROTOCOL};
+use crate::header::ABSENT_PORT;
+use crate::rules::{Prefix, Range, Rule, LARGEST_PROTOCOL};
 
 /// The values of one field that a box holds. Ends are 64-bit numbers, so that one more than any value is a number.
 #[derive(Clone, Copy, Debug, PartialEq, Eq)]
@@ -12,8 +13,8 @@ pub struct Side {
 /// The sides of a box, by field.
 pub type Sides = [Side; 5];
 
-/// The largest value of each field.
-pub const LARGEST: [u32; 5] = [u32::MAX, u32::MAX, LARGEST_PORT, LARGEST_PORT, LARGEST_PROTOCOL];
+/// The largest value of each field of a header. That of a port is the absent one.
+pub const LARGEST: [u32; 5] = [u32::MAX, u32::MAX, ABSENT_PORT, ABSENT_PORT, LARGEST_PROTOCOL];
 
 /// The root's box, which holds every header.
 pub fn root_box() -> Sides {
@@ -25,8 +26,8 @@ pub fn box_of(rule: &Rule) -> Sides {
     [
         prefix_side(rule.source),
         prefix_side(rule.destination),
-        range_side(rule.source_port),
-        range_side(rule.destination_port),
+        ports_side(rule.source_port),
+        ports_side(rule.destination_port),
         range_side(rule.protocol),
     ]
 }
@@ -35,6 +36,15 @@ pub fn box_of(rule: &Rule) -> Sides {
 fn prefix_side(prefix: Prefix) -> Side {
     let low = u64::from(prefix.address);
     Side { low, high: low + 2_u64.pow(32 - prefix.length) - 1 }
+}
+
+/// A range of ports is what it says, but the range of all ports reaches the absent one too.
+fn ports_side(range: Range) -> Side {
+    if range.is_all_ports() {
+        Side { low: 0, high: u64::from(ABSENT_PORT) }
+    } else {
+        range_side(range)
+    }
 }
 
 fn range_side(range: Range) -> Side {

@@ -1,9 +1,13 @@
 //! Headers: five words, and when they are refused.
 
 use crate::answer::Refusal;
-use crate::rules::{LARGEST_PORT, LARGEST_PROTOCOL};
+use crate::rules::LARGEST_PROTOCOL;
 
-/// One header whose ports and protocol are within their limits. Addresses have no limit.
+/// The port of a packet that has none, such as a later fragment. It is the largest value of a port field, one more than
+/// the largest port.
+pub const ABSENT_PORT: u32 = 65_536;
+
+/// One header whose ports and protocol are within their limits. Addresses have no limit, and a port may be absent.
 #[derive(Clone, Copy, Debug)]
 pub struct Header {
     pub source: u32,
@@ -26,10 +30,10 @@ pub fn judge_header(words: &[u32]) -> Result<Header, Refusal> {
         destination_port: words[3],
         protocol: words[4],
     };
-    if header.source_port > LARGEST_PORT {
+    if header.source_port > ABSENT_PORT {
         return Err(Refusal::HeaderField { field: 2 });
     }
-    if header.destination_port > LARGEST_PORT {
+    if header.destination_port > ABSENT_PORT {
         return Err(Refusal::HeaderField { field: 3 });
     }
     if header.protocol > LARGEST_PROTOCOL {

@@ -1,14 +1,14 @@
 //! When a rule matches a header. This is defined for any words, good or not. The action takes no part in it.
 
-use crate::header::Header;
+use crate::header::{Header, ABSENT_PORT};
 use crate::rules::{Prefix, Range, Rule};
 
 /// Does each address agree in the rule's first bits, and does each other field lie in its range?
 pub fn matches(rule: &Rule, header: &Header) -> bool {
     agrees(rule.source, header.source)
         && agrees(rule.destination, header.destination)
-        && lies_in(rule.source_port, header.source_port)
-        && lies_in(rule.destination_port, header.destination_port)
+        && takes_port(rule.source_port, header.source_port)
+        && takes_port(rule.destination_port, header.destination_port)
         && lies_in(rule.protocol, header.protocol)
 }
 
@@ -21,6 +21,16 @@ pub fn agrees(prefix: Prefix, address: u32) -> bool {
         return false;
     }
     (0..prefix.length as usize).all(|position| ours[position] == theirs[position])
+}
+
+/// Does the range take the header's port? An absent port is taken by the range of all ports alone, whatever the ends of
+/// the others; any other port is taken where it lies in the range.
+pub fn takes_port(range: Range, port: u32) -> bool {
+    if port == ABSENT_PORT {
+        range.is_all_ports()
+    } else {
+        lies_in(range, port)
+    }
 }
 
 /// Does the value lie in the range, ends included? A range with low over high holds nothing.

@@ -11,7 +11,7 @@ pub const FIELD_WORDS: usize = 10;
 pub const MOST_RULES: usize = 512;
 /// The longest prefix, in bits.
 pub const LONGEST_PREFIX: u32 = 32;
-/// The largest port.
+/// The largest port, and so the largest end of a rule's range of ports.
 pub const LARGEST_PORT: u32 = 65_535;
 /// The largest protocol.
 pub const LARGEST_PROTOCOL: u32 = 255;
@@ -30,6 +30,13 @@ pub struct Prefix {
 pub struct Range {
     pub low: u32,
     pub high: u32,
+}
+
+impl Range {
+    /// Is it exactly the range of all ports, 0 to 65,535? Only this one matches a packet without the port.
+    pub fn is_all_ports(self) -> bool {
+        self.low == 0 && self.high == LARGEST_PORT
+    }
 }
 
 /// One rule, good or not.
@@ -120,7 +127,7 @@ fn is_good_prefix(prefix: Prefix) -> bool {
     past.iter().all(|&bit| !bit)
 }
 
-/// Low is at most high, and neither is over the largest value of its field.
+/// Low is at most high, and neither is over the largest end that its field allows.
 fn is_good_range(range: Range, largest: u32) -> bool {
     range.low <= range.high && range.low <= largest && range.high <= largest
 }

@@ -82,7 +82,7 @@ fn walk(nodes: &[u32], header: &Header) -> Result<(u64, u64, u64, u64), Refusal>
     }
 }
 
-/// The header's value in this field.
+/// The header's value in this field. A cut compares an absent port as the number that it is.
 fn field_of(header: &Header, field: usize) -> u32 {
     match field {
         0 => header.source,

@@ -28,6 +28,7 @@ fn range_ends_are_compared_as_they_are() {
     assert!(!match_words([0, 0, 0, 0, 8, 7, 0, 9, 0, 9, 0], [0, 0, 7, 1, 1]));
     assert!(!match_words([0, 0, 0, 0, 8, 7, 0, 9, 0, 9, 0], [0, 0, 8, 1, 1]));
     assert!(match_words([0, 0, 0, 0, 8, u32::MAX, 0, 9, 0, 9, 0], [0, 0, 65_535, 1, 1]));
+    assert!(!match_words([0, 0, 0, 0, 8, u32::MAX, 0, 9, 0, 9, 0], [0, 0, 65_536, 1, 1]));
 }
 
 #[test]

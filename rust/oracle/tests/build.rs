@@ -88,15 +88,15 @@ fn up_to_eight_rules_are_one_leaf() {
 
 #[test]
 fn nine_rules_in_one_field_are_cut_at_the_middle_value() {
-    // Ports 10, 20, .. 90: the values 9, 10, 19, 20, .. 89, 90, which are 18, and of them the one at place 9.
-    let mut rules: Vec<Rule> = (1..10).map(|ten| with(3, [10 * ten, 10 * ten])).collect();
-    expect_tree(&rules, &[[3, 50, 2], [5, 0, 5], [5, 5, 4]], &[0, 1, 2, 3, 4, 5, 6, 7, 8]);
+    // Protocols 10, 20, .. 90: the values 9, 10, 19, 20, .. 89, 90, which are 18, and of them the one at place 9.
+    let mut rules: Vec<Rule> = (1..10).map(|ten| with(4, [10 * ten, 10 * ten])).collect();
+    expect_tree(&rules, &[[4, 50, 2], [5, 0, 5], [5, 5, 4]], &[0, 1, 2, 3, 4, 5, 6, 7, 8]);
     // The last one goes up to the box's high, which is no cut value: 17 are left, and place 8 has 49.
-    rules[8] = with(3, [90, 65_535]);
-    expect_tree(&rules, &[[3, 49, 2], [5, 0, 4], [5, 4, 5]], &[0, 1, 2, 3, 4, 5, 6, 7, 8]);
+    rules[8] = with(4, [90, 255]);
+    expect_tree(&rules, &[[4, 49, 2], [5, 0, 4], [5, 4, 5]], &[0, 1, 2, 3, 4, 5, 6, 7, 8]);
     // And the first one begins at 0, which gives no value: 16, and place 8 has 50.
-    rules[0] = with(3, [0, 10]);
-    expect_tree(&rules, &[[3, 50, 2], [5, 0, 5], [5, 5, 4]], &[0, 1, 2, 3, 4, 5, 6, 7, 8]);
+    rules[0] = with(4, [0, 10]);
+    expect_tree(&rules, &[[4, 50, 2], [5, 0, 5], [5, 5, 4]], &[0, 1, 2, 3, 4, 5, 6, 7, 8]);
 }
 
 #[test]
@@ -123,7 +123,7 @@ fn of_fields_with_as_many_values_the_lowest_is_cut() {
             let words = compile(&rules.concat(), LARGEST_ROOM).expect("a small tree fits");
             let high = if first < 2 { 0x0AFF_FFFF } else { 30 };
             assert_eq!(words.nodes[..2], [first as u32, high], "fields {first} and {second}");
-            // With one value more, the higher field is cut.
+            // With more values, the higher field is cut.
             let more = if second < 2 { [0x0800_0000, 8] } else { [40, EVERYTHING[2 * second + 1]] };
             rules[7] = with(second, more);
             let words = compile(&rules.concat(), LARGEST_ROOM).expect("a small tree fits");
@@ -134,16 +134,16 @@ fn of_fields_with_as_many_values_the_lowest_is_cut() {
 
 #[test]
 fn repeats_are_dropped_before_values_are_counted() {
-    // Field 2 has 18 ends, but 99 and 200 only; field 3 has 4, 6, 6 and 8; the other fields have one value each.
-    let mut rules: Vec<Rule> = (0..9).map(|number| variant(with(2, [100, 200]), &[0, 1, 4], number % 8)).collect();
-    for (rule, range) in rules.iter_mut().zip([[5, 6], [7, 65_535], [9, 65_535]]) {
-        rule[6..8].copy_from_slice(&range);
+    // Field 2 has 18 ends, but 99 and 200 only; field 4 has 4, 6, 6 and 8; the other fields have one value each.
+    let mut rules: Vec<Rule> = (0..9).map(|number| variant(with(2, [100, 200]), &[0, 1, 3], number % 8)).collect();
+    for (rule, range) in rules.iter_mut().zip([[5, 6], [7, 255], [9, 255]]) {
+        rule[8..10].copy_from_slice(&range);
     }
     let words = compile(&rules.concat(), LARGEST_ROOM).expect("a small tree fits");
-    assert_eq!(words.nodes, [[3, 6, 2], [5, 0, 7], [5, 7, 8]].concat());
+    assert_eq!(words.nodes, [[4, 6, 2], [5, 0, 7], [5, 7, 8]].concat());
     assert_eq!(words.pool, [0, 3, 4, 5, 6, 7, 8, 1, 2, 3, 4, 5, 6, 7, 8]);
     // Without the 8, both have two values, and the lower field is cut at its second one.
-    rules[2][6] = 0;
+    rules[2][8] = 0;
     let words = compile(&rules.concat(), LARGEST_ROOM).expect("a small tree fits");
     assert_eq!(words.nodes[..2], [2, 200]);
 }

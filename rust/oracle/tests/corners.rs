@@ -16,11 +16,18 @@ impl Drawn {
     }
 }
 
-/// Rules that end somewhere in two fields: destination port and protocol.
+/// Rules that end somewhere in two fields: destination port, often near 0 or near the largest port, and protocol.
 fn small_list(drawn: &mut Drawn) -> Vec<u32> {
     let mut words = Vec::new();
     for _ in 0..drawn.below(4) {
-        let mut ends = [drawn.below(8), drawn.below(8), drawn.below(256), drawn.below(256)].map(|end| end as u32);
+        let ports = [drawn.below(8), 65_535 - drawn.below(3)];
+        let ports = match drawn.below(4) {
+            0 => [0, 65_535],
+            1 => [drawn.below(8), ports[0]],
+            2 => [65_535 - drawn.below(3), ports[1]],
+            _ => ports,
+        };
+        let mut ends = [ports[0], ports[1], drawn.below(256), drawn.below(256)].map(|end| end as u32);
         ends[..2].sort_unstable();
         ends[2..].sort_unstable();
         words.extend([0, 0, 0, 0, 0, 65_535, ends[0], ends[1], ends[2], ends[3], 0]);

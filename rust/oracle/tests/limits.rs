@@ -134,7 +134,7 @@ fn refusals_come_in_order() {
     let mut list = EVERYTHING.to_vec();
     let mut header = HEADER.to_vec();
     assert_eq!(line_all(&list, &header, &mut []), refused(4, 1));
-    header[3] = 65_536;
+    header[3] = 65_537;
     header[4] = 256;
     assert_eq!(line_all(&list, &header, &mut []), refused(3, 3));
     header[2] = u32::MAX;

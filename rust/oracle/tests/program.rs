@@ -182,12 +182,13 @@ fn a_misshapen_line_is_9_with_its_number_and_the_next_is_read() {
 #[test]
 fn a_port_or_protocol_too_large_is_3_with_its_field() {
     for (old, new, field) in [
-        ("\t40000\t", "\t65536\t", 2),
+        ("\t40000\t", "\t65537\t", 2),
         ("\t40000\t", "\t4294967295\t", 2),
-        ("\t80\t", "\t65536\t", 3),
+        ("\t80\t", "\t65537\t", 3),
         ("\t6\n", "\t256\n", 4),
         ("\t6\n", "\t4294967295\n", 4),
-        ("\t80\t6\n", "\t65536\t256\n", 3),
+        ("\t80\t6\n", "\t65537\t256\n", 3),
+        ("\t80\t6\n", "\t65536\t256\n", 4),
     ] {
         assert_eq!(answers(head_with(old, new) + HEAD), refused(3, field, 0) + HIT);
     }

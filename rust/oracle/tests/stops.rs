@@ -222,7 +222,7 @@ fn a_part_is_spelt() {
     expect_refusal(&rules, &TreeWords { pool: [&POOL[..9], &[17]].concat(), ..stop(4) }, refused(7, 3, 0));
     expect_refusal(&rules, &TreeWords { pool: POOL[..11].to_vec(), ..stop(4) }, refused(7, 4, 0));
     // Spelt comes before the walk: the value of node 0 is outside of its box, too.
-    expect_refusal(&rules, &words(&[[3, 65_535, 0], [5, 0, 18]], &[0; 18]), refused(7, 1, 0));
+    expect_refusal(&rules, &words(&[[3, 65_536, 0], [5, 0, 18]], &[0; 18]), refused(7, 1, 0));
 }
 
 #[test]
@@ -251,7 +251,7 @@ fn a_right_child_that_is_begun_is_told_and_one_that_is_not_is_0() {
 fn the_walk_tells_its_first_fault() {
     let rules = seventeen();
     // Node 1's value is over its box's high, which is 50, or is that; below it is right.
-    for value in [50, 51, 65_535, u32::MAX] {
+    for value in [50, 51, 65_535, 65_536, u32::MAX] {
         expect_refusal(&rules, &words(&[[3, 50, 0], [3, value, 0]], &[]), refused(6, 1, 0));
     }
     assert_eq!(on(&rules, &words(&[[3, 50, 0], [3, 49, 0]], &[]), 1), Answer::completed(3, 8, 0));

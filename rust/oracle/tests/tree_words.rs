@@ -74,5 +74,5 @@ fn entries_may_fall_and_repeat() {
 #[test]
 fn the_header_is_judged_first() {
     assert_eq!(tree_first(&[], &[], &[], &[0; 4]), refused(3, 5));
-    assert_eq!(tree_all(&[], &[], &[], &[0, 0, 0, 65_536, 256], &mut []), refused(3, 3));
+    assert_eq!(tree_all(&[], &[], &[], &[0, 0, 0, 65_537, 256], &mut []), refused(3, 3));
 }

@@ -1,4 +1,4 @@
-//! The limits, on both sides: length 32 and 0, 512 and 513 rules, 63 and 64 cuts.
+//! The limits, on both sides: length 32 and 0, the largest and the absent port, 512 and 513 rules, 63 and 64 cuts.
 
 use crate::say::{self, address, from_prefix, Tree};
 
@@ -32,6 +32,26 @@ pub fn lengths() {
     say::scan_list("length 33", &from_prefix(0, 33), &from(0));
     say::rule_check("length 31, the last bit set", &from_prefix(1, 31));
     say::rule_check("length 32, the last bit set", &from_prefix(1, 32));
+}
+
+/// Two rules of destination ports, all but port 0 and then all; and one whose ports end past the largest.
+pub fn ports() {
+    let all = from_prefix(0, 0);
+    let mut but_0 = all;
+    but_0[6] = 1;
+    let list = [but_0, all].concat();
+    say::search_list("port 65535", &list, &[0, 0, 0, 65_535, 6]);
+    say::search_list("no port", &list, &[0, 0, 0, 65_536, 6]);
+    let mut tree = Tree { nodes: vec![[3, 65_535, 2], [5, 0, 2], [5, 2, 1]], pool: vec![0, 1, 1] };
+    say::tree_check("a cut at 65535", &list, &tree);
+    let lacking = Tree { nodes: vec![[3, 65_535, 2], [5, 0, 2], [5, 2, 0]], pool: vec![0, 1] };
+    say::tree_check("a cut at 65535, lacking right of it", &list, &lacking);
+    tree.nodes[0][1] = 65_536;
+    say::tree_check("a cut at 65536", &list, &tree);
+    let mut past = all;
+    (past[5], past[7]) = (65_536, 65_536);
+    say::rule_check("ports to 65536", &past);
+    say::scan_list("ports to 65536, no port", &past, &[0, 0, 65_536, 65_536, 6]);
 }
 
 /// So many rules: each has the source ports from 0 to its own number, and only the last holds a protocol but 0.

@@ -19,6 +19,7 @@ fn main() {
     actions::lists();
     actions::rule_file();
     limits::lengths();
+    limits::ports();
     limits::rules();
     limits::cuts();
 }

@@ -56,8 +56,13 @@ pub fn searches() {
         search(&format!("{source} port {port} protocol {protocol}"), &header(source, port, protocol));
     }
     let whole = header("10.1.2.3", 80, 6);
+    let without_port = header("10.1.2.3", 65_536, 6);
+    search("10.1.2.3 without a destination port", &without_port);
+    let mut without_ports = without_port;
+    without_ports[2] = 65_536;
+    search("10.1.2.3 without ports", &without_ports);
     search("protocol 256", &header("10.1.2.3", 80, 256));
-    search("port 65536", &header("10.1.2.3", 65_536, 6));
+    search("port 65537", &header("10.1.2.3", 65_537, 6));
     search("a header of four words", &whole[..4]);
     search("a header of six words", &[&whole[..], &[0]].concat());
     say::line_all("room for 2 where 3 match", &rules(), &whole, 2);

@@ -1,8 +1,10 @@
-//! Says which rule of a rules or acl file decides about a packet, the lowest that matches, and its action.
+//! Says which rule of a rules or acl file decides about a packet, the lowest that matches, and its action. A packet
+//! without ports has 65536 for each.
 //!
 //!     first RULES SOURCE DESTINATION SOURCE_PORT DESTINATION_PORT PROTOCOL
 
 use std::error::Error;
+use std::net::Ipv4Addr;
 use std::{env, fs};
 
 use wickorchard::{Header, Policy};
@@ -13,13 +15,13 @@ fn main() -> Result<(), Box<dyn Error>> {
         return Err("give a rules or acl file, two addresses, two ports and a protocol".into());
     };
     let policy = Policy::read(&fs::read(rules)?)?;
-    let header = Header {
-        source: source.parse()?,
-        destination: destination.parse()?,
-        source_port: source_port.parse()?,
-        destination_port: destination_port.parse()?,
-        protocol: protocol.parse()?,
-    };
+    let header = Header::try_from([
+        source.parse::<Ipv4Addr>()?.into(),
+        destination.parse::<Ipv4Addr>()?.into(),
+        source_port.parse()?,
+        destination_port.parse()?,
+        protocol.parse()?,
+    ])?;
     match policy.first(&header) {
         Some(found) => println!("rule {}, action {}", found.rule, found.action),
         None => println!("no rule"),

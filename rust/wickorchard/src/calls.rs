@@ -5,7 +5,8 @@
 //! rules, nodes and pool, unchanged since. [`Policy`](crate::Policy) sees to that. A [`Part`] is no tree yet.
 //!
 //! Words are numbers in this machine's own order, as `u32::from(Ipv4Addr)` gives them: `[a, b, c, d]` is
-//! `u32::from_be_bytes([a, b, c, d])`. [`Header::words`](crate::Header::words) makes the words of a header.
+//! `u32::from_be_bytes([a, b, c, d])`. [`Header::words`](crate::Header::words) makes the words of a header, in which a
+//! port that is absent is [`ABSENT_PORT`](crate::limits::ABSENT_PORT).
 
 use crate::limits::NODE_WORDS;
 use crate::raw::{self, Answer, ListWriter};

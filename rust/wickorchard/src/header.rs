@@ -2,10 +2,13 @@
 
 use std::net::Ipv4Addr;
 
-use crate::limits::HEADER_WORDS;
+use crate::limits::{ABSENT_PORT, HEADER_WORDS};
 use crate::refusal::Refusal;
 
-/// The five fields by which a packet is classified. A packet without ports has 0 for both.
+/// The five fields by which a packet is classified.
+///
+/// A port is `None` for a packet that has none: a later fragment, ICMP, or any other protocol without ports. Of all
+/// ranges only the whole one, 0 to 65,535, matches it. Port 0 is a port like any other, and does not stand for none.
 ///
 /// An address and a port are numbers here, and bytes in network order in a packet: make an address of the four bytes by
 /// `Ipv4Addr::from([a, b, c, d])`, and a port of the two by `u16::from_be_bytes`.
@@ -13,19 +16,21 @@ use crate::refusal::Refusal;
 pub struct Header {
     pub source: Ipv4Addr,
     pub destination: Ipv4Addr,
-    pub source_port: u16,
-    pub destination_port: u16,
+    pub source_port: Option<u16>,
+    pub destination_port: Option<u16>,
     pub protocol: u8,
 }
 
 impl Header {
-    /// The header as the library's calls take it: a word for each field, in the order of the fields.
+    /// The header as the library's calls take it: a word for each field, in the order of the fields. A port that is
+    /// `None` is [`ABSENT_PORT`].
     pub fn words(&self) -> [u32; HEADER_WORDS] {
+        let port = |port: Option<u16>| port.map_or(ABSENT_PORT, u32::from);
         [
             self.source.into(),
             self.destination.into(),
-            self.source_port.into(),
-            self.destination_port.into(),
+            port(self.source_port),
+            port(self.destination_port),
             self.protocol.into(),
         ]
     }
@@ -39,11 +44,15 @@ impl TryFrom<[u32; HEADER_WORDS]> for Header {
     fn try_from(words: [u32; HEADER_WORDS]) -> Result<Header, Refusal> {
         let [source, destination, source_port, destination_port, protocol] = words;
         let too_large = |field| Refusal::HeaderWrong { field };
+        let port = |field, word: u32| match word {
+            ABSENT_PORT => Ok(None),
+            _ => word.try_into().map(Some).map_err(|_| too_large(field)),
+        };
         Ok(Header {
             source: source.into(),
             destination: destination.into(),
-            source_port: source_port.try_into().map_err(|_| too_large(2))?,
-            destination_port: destination_port.try_into().map_err(|_| too_large(3))?,
+            source_port: port(2, source_port)?,
+            destination_port: port(3, destination_port)?,
             protocol: protocol.try_into().map_err(|_| too_large(4))?,
         })
     }

@@ -18,13 +18,17 @@
 //! let header = Header {
 //!     source: [10, 1, 2, 3].into(),
 //!     destination: [192, 168, 0, 1].into(),
-//!     source_port: 40_000,
-//!     destination_port: 80,
+//!     source_port: Some(40_000),
+//!     destination_port: Some(80),
 //!     protocol: 6,
 //! };
 //! assert_eq!(policy.first(&header), Some(Match { rule: 0, action: 1 }));
 //! let mut found = [0; MOST_RULES];
 //! assert_eq!(policy.all(&header, &mut found), [0, 1]);
+//!
+//! // A later fragment has no ports. Rule 0 names one, so it does not match.
+//! let fragment = Header { source_port: None, destination_port: None, ..header };
+//! assert_eq!(policy.first(&fragment), Some(Match { rule: 1, action: 0 }));
 //!
 //! // A file that was cut short is refused, and never taken for a shorter list.
 //! assert_eq!(Policy::read(&text.as_bytes()[..60]).err(), Some(Refusal::TextStops { lines: 2 }));

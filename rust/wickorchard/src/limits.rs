@@ -5,7 +5,8 @@
 pub const RULE_WORDS: usize = 11;
 /// The word of a rule that is its action.
 pub const ACTION: usize = 10;
-/// The words of a header: source address, destination address, source port, destination port, protocol.
+/// The words of a header: source address, destination address, source port, destination port, protocol. A port may be
+/// [`ABSENT_PORT`].
 pub const HEADER_WORDS: usize = 5;
 /// The words of a node: a cut's field, value and right child; or a leaf's [`LEAF`], start in the pool and count.
 pub const NODE_WORDS: usize = 3;
@@ -13,8 +14,10 @@ pub const NODE_WORDS: usize = 3;
 pub const LEAF: u32 = 5;
 /// The longest prefix.
 pub const ADDRESS_BITS: u32 = 32;
-/// The largest port.
+/// The largest port, which is the largest end of a rule's range of ports.
 pub const LARGEST_PORT: u32 = 65_535;
+/// A header's port that means that there is none. Of all ranges only 0 to [`LARGEST_PORT`] matches it.
+pub const ABSENT_PORT: u32 = 65_536;
 /// The largest protocol.
 pub const LARGEST_PROTOCOL: u32 = 255;
 /// The largest action of a rule.

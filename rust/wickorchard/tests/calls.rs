@@ -11,13 +11,18 @@ const TREE_FILE: &[u8] = include_bytes!("../../../examples/worked/tree.txt");
 const EVERYTHING: [u32; 11] = [0, 0, 0, 0, 0, 65_535, 0, 65_535, 0, 255, 0];
 const NODES: [u32; 15] = [0, 167_772_159, 2, 5, 0, 1, 0, 184_549_375, 4, 5, 1, 3, 5, 4, 1];
 const POOL: [u32; 5] = [2, 0, 1, 2, 2];
-const HEADERS: [[u32; 5]; 5] = [
+const HEADERS: [[u32; 5]; 8] = [
     [0x0A01_0203, 0xC0A8_0001, 40_000, 80, 6],
     [0x0A01_0203, 0xC0A8_0001, 40_000, 443, 6],
     [0x09FF_FFFF, 0xC0A8_0001, 40_000, 80, 6],
     [0x0A01_0203, 0xC0A8_0001, 65_536, 80, 6],
+    [0x0A01_0203, 0xC0A8_0001, 65_536, 65_536, 1],
+    [0x0A01_0203, 0xC0A8_0001, 65_537, 80, 6],
+    [0x0A01_0203, 0xC0A8_0001, 65_536, 65_537, 6],
     [0x0A01_0203, 0xC0A8_0001, 40_000, 80, 256],
 ];
+/// How many of them are legal. They come first.
+const LEGAL: usize = 5;
 
 fn rules() -> Vec<u32> {
     with_actions([0, 0, 0])
@@ -30,7 +35,8 @@ fn with_actions([a, b, c]: [u32; 3]) -> Vec<u32> {
     [&first[..], &second, &EVERYTHING[..10], &[c]].concat()
 }
 
-/// So many rules. They differ in the ends of the source port, and all match every legal header of `HEADERS`.
+/// So many rules. They differ in the ends of the source port, and all match every legal header of `HEADERS` that has
+/// one.
 fn wide_rules(count: u32) -> Vec<u32> {
     (0..count).flat_map(|number| [0, 0, 0, 0, number, 65_535 - number, 0, 65_535, 0, 255, 0]).collect()
 }
@@ -249,7 +255,7 @@ fn a_policy_that_is_compiled_answers_as_its_list() {
         let list = Policy::read(file).expect("the list is good");
         let mut policy = list.clone();
         assert_eq!(policy.compile(), compiled);
-        for words in &HEADERS[..3] {
+        for words in &HEADERS[..LEGAL] {
             let header = Header::try_from(*words).expect("the header is legal");
             let [mut found, mut listed] = [[7; MOST_RULES]; 2];
             assert_eq!(policy.all(&header, &mut found), list.all(&header, &mut listed));
@@ -401,13 +407,17 @@ fn a_header_is_its_five_words() {
     let header = Header {
         source: [10, 1, 2, 3].into(),
         destination: [192, 168, 0, 1].into(),
-        source_port: 40_000,
-        destination_port: 80,
+        source_port: Some(40_000),
+        destination_port: Some(80),
         protocol: 6,
     };
     assert_eq!(header.words(), HEADERS[0]);
+    let without_source = Header { source_port: None, ..header };
+    assert_eq!(without_source.words(), HEADERS[3]);
+    let without_ports = Header { destination_port: None, protocol: 1, ..without_source };
+    assert_eq!((without_ports.words(), Header::try_from(HEADERS[4])), (HEADERS[4], Ok(without_ports)));
     // Words make a header exactly where the calls take them; otherwise they are refused in the same way.
-    let limits = [0, 1, 255, 256, 65_535, 65_536, u32::MAX];
+    let limits = [0, 1, 255, 256, 65_535, 65_536, 65_537, u32::MAX];
     for source_port in limits {
         for destination_port in limits {
             for protocol in limits {

@@ -4,6 +4,7 @@ use wickorchard::{limits, Refusal};
 
 const C_HEADER: &str = include_str!("../../../include/wickorchard.h");
 const FIELDS: &str = include_str!("../../../crates/fields/src/header.rt");
+const PORTS: &str = include_str!("../../../crates/fields/src/port.rt");
 const PREFIX: &str = include_str!("../../../crates/fields/src/prefix.rt");
 const RULES: &str = include_str!("../../../crates/rules/src/words.rt");
 const TREES: &str = include_str!("../../../crates/trees/src/words.rt");
@@ -31,6 +32,7 @@ fn the_limits_are_those_of_the_c_header() {
         ("LEAF", limits::LEAF as usize),
         ("ADDRESS_BITS", limits::ADDRESS_BITS as usize),
         ("LARGEST_PORT", limits::LARGEST_PORT as usize),
+        ("ABSENT_PORT", limits::ABSENT_PORT as usize),
         ("LARGEST_PROTOCOL", limits::LARGEST_PROTOCOL as usize),
         ("LARGEST_ACTION", limits::LARGEST_ACTION as usize),
         ("MOST_RULES", limits::MOST_RULES),
@@ -51,11 +53,12 @@ fn the_limits_are_those_of_the_proved_code() {
         (RULES, "RULE_WORDS: usize = ", limits::RULE_WORDS),
         (RULES, "MATCH_WORDS: usize = ", limits::ACTION),
         (RULES, "MOST_RULES: usize = ", limits::MOST_RULES),
-        (RULES, "LARGEST_PORT: u32 = ", limits::LARGEST_PORT as usize),
         (RULES, "LARGEST_PROTOCOL: u32 = ", limits::LARGEST_PROTOCOL as usize),
         (RULES, "LARGEST_ACTION: u32 = ", limits::LARGEST_ACTION as usize),
         (FIELDS, "FIELDS: usize = ", limits::HEADER_WORDS),
         (FIELDS, "FIELDS: usize = ", limits::LEAF as usize),
+        (PORTS, "LARGEST_PORT: u32 = ", limits::LARGEST_PORT as usize),
+        (PORTS, "ABSENT_PORT: u32 = ", limits::ABSENT_PORT as usize),
         (PREFIX, "ADDRESS_BITS: u32 = ", limits::ADDRESS_BITS as usize),
         (TREES, "NODE_WORDS: usize = ", limits::NODE_WORDS),
         (TREES, "MOST_NODES: usize = ", limits::MOST_NODES),

@@ -4,8 +4,8 @@ use oracle::nodes::{MOST_ENTRIES, MOST_NODES};
 
 use crate::bench::{Bench, Run};
 use crate::draws::Draws;
-use crate::headers::LARGEST;
-use crate::lists::{self, Rule, EVERYTHING};
+use crate::headers::{range_of, LARGEST};
+use crate::lists::{self, Rule, EVERYTHING, LARGEST_END};
 use crate::shared_ends::{around_a_header, put, variant, with};
 use crate::trees::{self, Policy};
 
@@ -91,16 +91,16 @@ fn nine_rules(counts: [usize; 5]) -> Option<[Rule; PARTED]> {
     Some(rules)
 }
 
-/// Rules of such fields. Each field is whole or ends at its first or its last cut value; a port or protocol may begin
-/// after the first, too.
+/// Rules of such fields. Each field is whole or ends at its first or its last cut value; the protocol may begin after
+/// the first, too.
 fn combinations(counts: [usize; 5]) -> Vec<Rule> {
     (0..5).fold(vec![EVERYTHING], |rules, field| {
         let mut pairs = vec![[EVERYTHING[2 * field], EVERYTHING[2 * field + 1]]];
         if counts[field] > 0 {
             pairs.extend([0, counts[field] - 1].map(|number| from_zero(field, number as u32)));
         }
-        if counts[field] > 0 && field >= 2 {
-            pairs.push([end_from_zero(field, 0) + 1, LARGEST[field]]);
+        if counts[field] > 0 && field == 4 {
+            pairs.push([end_from_zero(field, 0) + 1, LARGEST_END[field]]);
         }
         rules.iter().flat_map(|&rule| pairs.iter().map(move |&pair| put(rule, field, pair))).collect()
     })
@@ -190,37 +190,36 @@ fn longest_leaf(policy: &Policy) -> u32 {
 fn nested(number: u32) -> Rule {
     let inner = number + 1;
     let address = lists::prefix(0xAAAA_AAAA, 2 * inner);
-    (2..5).fold(put(with(0, address), 1, address), |rule, field| put(rule, field, [inner, LARGEST[field] - inner]))
+    (2..5).fold(put(with(0, address), 1, address), |rule, field| put(rule, field, [inner, LARGEST_END[field] - inner]))
 }
 
 /// Nine rules that are the same in a field have two cut values of it, or one at an end of the field, or none. Each of
-/// the other fields has one, and each cut leaves nine rules on one side only.
+/// the other fields has one, and each cut leaves nine rules on one side only. A port's range ends at its field's end
+/// only where it is whole: the absent port comes after the largest one.
 fn outer_ends(bench: &mut Bench) -> Run {
     let mut draws = Draws::seeded(1_300_000);
-    let expect = |bench: &mut Bench, field: usize, pair: [u32; 2], low: u32, high: u32| -> Run {
+    let expect = |bench: &mut Bench, field: usize, pair: [u32; 2]| -> Run {
         let case = format!("nine times {pair:?} in field {field}");
         let rules: Vec<Rule> = (0..PARTED).map(|number| variant(with(field, pair), field, number)).collect();
         let policy = build_well(bench, &case, &rules)?;
         let mut cuts: Vec<u32> =
             policy.nodes.chunks(3).filter(|node| node[0] == field as u32).map(|node| node[1]).collect();
         cuts.sort_unstable();
+        let (low, high) = range_of(&rules[0], field);
         let below = low.checked_sub(1);
         let values: Vec<u32> = below.into_iter().chain(Some(high).filter(|&high| high < LARGEST[field])).collect();
         assert_eq!((cuts, policy.node_count()), (values.clone(), 2 * (values.len() + 4) + 1), "the oracle: {case}");
         Ok(())
     };
-    for (field, top) in LARGEST.into_iter().enumerate().skip(2) {
-        for (low, high) in [(0, 0), (0, top), (0, top - 1), (1, top), (1, 1), (1, top - 1), (top, top), (top - 1, top)]
-        {
-            expect(bench, field, [low, high], low, high)?;
+    for (field, top) in LARGEST_END.into_iter().enumerate().skip(2) {
+        for pair in [[0, 0], [0, top], [0, top - 1], [1, top], [1, 1], [1, top - 1], [top, top], [top - 1, top]] {
+            expect(bench, field, pair)?;
         }
     }
     for field in 0..2 {
         for length in 0..=32 {
             for address in [0, u32::MAX, 0xAAAA_AAAA, draws.word()] {
-                let [low, length] = lists::prefix(address, length);
-                let high = u64::from(low) + 2_u64.pow(32 - length) - 1;
-                expect(bench, field, [low, length], low, high as u32)?;
+                expect(bench, field, lists::prefix(address, length))?;
             }
         }
     }

@@ -166,7 +166,7 @@ fn far_past(bench: &mut Bench) -> Run {
 fn deep_trees(bench: &mut Bench) -> Run {
     let policy = build_well(bench, "the deepest that was found", &DEEPEST)?;
     let answer = bench.tree_check("the deepest that was found", &policy)?;
-    assert_eq!(answer.a, 29, "the oracle: the deepest that was found");
+    assert_eq!(answer.a, 31, "the oracle: the deepest that was found");
     in_rooms(bench, "the deepest that was found", &DEEPEST, [policy.nodes.len(), policy.pool.len()])?;
     for rule in 0..DEEPEST.len() {
         let mut rules = DEEPEST.to_vec();

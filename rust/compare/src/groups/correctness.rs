@@ -2,8 +2,8 @@
 
 use crate::bench::{Bench, Run};
 use crate::draws::Draws;
-use crate::headers::{self, Header};
-use crate::lists::{self, List, EVERYTHING, MANNERS, WORKED_POLICY};
+use crate::headers::{self, Header, LARGEST};
+use crate::lists::{self, List, EVERYTHING, LARGEST_END, MANNERS, WORKED_POLICY};
 
 const PURPOSE: &str = "correctness";
 
@@ -70,21 +70,23 @@ fn flipped_bits(bench: &mut Bench) -> Run {
     Ok(())
 }
 
-/// Each range of some ends, against each value that is one of them or beside one.
+/// Each range of some ends, against each value that is one of them or beside one. The whole range of a port holds an
+/// absent one too.
 fn range_ends(bench: &mut Bench) -> Run {
     let mut draws = Draws::seeded(100_003);
     for field in 2..5 {
-        let largest = headers::LARGEST[field];
+        let largest = LARGEST_END[field];
         let ends = [0, 1, 2, largest / 2, largest / 2 + 1, largest - 1, largest];
         for low in ends {
             for high in ends.into_iter().filter(|&high| low <= high) {
                 let mut rule = EVERYTHING;
                 rule[2 * field..2 * field + 2].copy_from_slice(&[low, high]);
-                for value in ends {
+                let is_whole = low == 0 && high == largest;
+                for value in ends.into_iter().chain([LARGEST[field]]) {
                     let header = headers::with(headers::anywhere(&mut draws), field, value);
                     let case = format!("field {field}, {low} to {high}, value {value}");
                     let answer = bench.all_calls(&case, &rule, &header)?;
-                    assert_eq!(answer.a == 1, low <= value && value <= high);
+                    assert_eq!(answer.a == 1, is_whole || (low <= value && value <= high));
                 }
             }
         }

@@ -10,8 +10,8 @@ use crate::lists::{self, MANNERS};
 const PURPOSE: &str = "damage";
 
 /// Words at which a test turns over.
-const TURNING_WORDS: [u32; 22] = [
-    0, 1, 2, 7, 8, 31, 32, 33, 64, 127, 254, 255, 256, 257, 65_534, 65_535, 65_536, 0x7FFF_FFFF, 0x8000_0000,
+const TURNING_WORDS: [u32; 23] = [
+    0, 1, 2, 7, 8, 31, 32, 33, 64, 127, 254, 255, 256, 257, 65_534, 65_535, 65_536, 65_537, 0x7FFF_FFFF, 0x8000_0000,
     0x8000_0001, 0xFFFF_0000, 0xFFFF_FFFF,
 ];
 

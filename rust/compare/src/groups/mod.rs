@@ -1,5 +1,8 @@
 //! The groups of inputs, by purpose: correctness, limits and damage.
 
+mod absent_builds;
+mod absent_ports;
+mod absent_trees;
 mod acl_cases;
 mod acl_files;
 mod acl_writers;
@@ -20,6 +23,7 @@ mod part_damage;
 mod part_files;
 mod part_order;
 mod part_others;
+mod program_absent;
 mod program_acl;
 mod program_drawn;
 mod program_files;
@@ -47,7 +51,7 @@ use crate::bench::{Bench, Run};
 use crate::trials::Trials;
 
 /// Compares every group in turn: lists, then trees, then the compiler, then the compiler that stops, then files, then
-/// twins, which all of them judge, then actions and the files that hold them.
+/// twins, which all of them judge, then actions and the files that hold them, then packets without ports.
 pub fn run(bench: &mut Bench) -> Run {
     correctness::run(bench)?;
     limits::run(bench)?;
@@ -86,7 +90,10 @@ pub fn run(bench: &mut Bench) -> Run {
     actions::run(bench)?;
     acl_writers::run(bench)?;
     acl_files::run(bench)?;
-    acl_cases::run(bench)
+    acl_cases::run(bench)?;
+    absent_ports::run(bench)?;
+    absent_trees::run(bench)?;
+    absent_builds::run(bench)
 }
 
 /// Compares every group of the program's runs in turn.
@@ -94,5 +101,6 @@ pub fn run_program(trials: &mut Trials) -> Run {
     program_files::run(trials)?;
     program_input::run(trials)?;
     program_drawn::run(trials)?;
-    program_acl::run(trials)
+    program_acl::run(trials)?;
+    program_absent::run(trials)
 }

@@ -122,7 +122,7 @@ fn break_header(words: &mut Vec<u32>, form: usize) {
     match form {
         0 => words.truncate(4),
         1 => words.push(0),
-        2 => words[3] = 65_536,
+        2 => words[3] = 65_537,
         _ => words[4] = u32::MAX,
     }
 }

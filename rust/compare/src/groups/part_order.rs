@@ -104,7 +104,7 @@ type Case = (&'static str, &'static [[u32; 3]], &'static [u32], [u64; 3]);
 
 /// Parts for 17 rules: destination ports 10, 20, .. 90 with protocol 1, and 10, 20, .. 80 with protocol 2. Their tree
 /// has the nodes 3 50 4, 3 29 3, and leaves of rules 0, 1, 9, 10; then 2, 3, 4, 11, 12, 13; then 5 to 8 and 14 to 16.
-const CASES: [Case; 26] = [
+const CASES: [Case; 28] = [
     ("good", &[[3, 50, 0], [3, 29, 3], [5, 0, 4], [5, 4, 6]], &[0, 1, 9, 10, 2, 3, 4, 11, 12, 13], [0, 0, 0]),
     ("a cut alone", &[[3, 50, 0]], &[], [0, 0, 0]),
     ("a cut alone, whose child is no node", &[[3, 50, 1]], &[], [6, 0, 0]),
@@ -115,7 +115,9 @@ const CASES: [Case; 26] = [
     ("a left part that ends with the last node, and 0", &[[4, 0, 0], [5, 0, 0]], &[], [0, 0, 0]),
     ("a value that is the box's high", &[[3, 50, 0], [3, 50, 0]], &[], [6, 1, 0]),
     ("a value just below the box's high", &[[3, 50, 0], [3, 49, 0]], &[], [0, 0, 0]),
-    ("a wrong value before a wrong child", &[[3, 65_535, 1], [3, 29, 1]], &[], [6, 0, 0]),
+    ("a wrong value before a wrong child", &[[3, 65_536, 1], [3, 29, 1]], &[], [6, 0, 0]),
+    ("a value of 65,535, which parts the absent port from the others", &[[3, 65_535, 0], [3, 29, 0]], &[], [0, 0, 0]),
+    ("a value of 65,535, and two wrong children", &[[3, 65_535, 1], [3, 29, 1]], &[], [6, 1, 0]),
     ("a wrong inner value before a wrong outer child", &[[3, 50, 1], [3, 60, 0]], &[], [6, 1, 0]),
     ("a leaf that falls, before the children", &[[3, 50, 1], [3, 29, 1], [5, 0, 2]], &[1, 0], [7, 2, 0]),
     ("a wrong value before a leaf that falls", &[[3, 50, 0], [3, 50, 0], [5, 0, 2]], &[1, 0], [6, 1, 0]),
@@ -127,7 +129,7 @@ const CASES: [Case; 26] = [
     ("a leaf that is all, and lacks a rule", &[[5, 0, 2]], &[0, 1], [8, 0, 2]),
     ("a node left over", &[[4, 0, 2], [5, 0, 0], [5, 0, 0], [5, 0, 0]], &[], [6, 3, 0]),
     ("a cut left over, which is open", &[[5, 0, 0], [4, 0, 0]], &[], [6, 1, 0]),
-    ("a first word that no node has, after a wrong value", &[[3, 65_535, 0], [6, 0, 0]], &[], [6, 1, 0]),
+    ("a first word that no node has, after a wrong value", &[[3, 65_536, 0], [6, 0, 0]], &[], [6, 1, 0]),
     ("an entry that is no rule, after a wrong child", &[[3, 50, 1], [5, 0, 1]], &[17], [7, 1, 0]),
     ("a pool word left over, after a wrong child", &[[3, 50, 1], [5, 0, 0]], &[0], [7, 2, 0]),
     ("a start that is wrong, before a wrong first word", &[[4, 0, 0], [5, 1, 0], [6, 0, 0]], &[], [7, 1, 0]),

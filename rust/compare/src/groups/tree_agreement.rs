@@ -4,8 +4,7 @@ use oracle::corners::{self, Verdict};
 
 use crate::bench::{Bench, Run};
 use crate::draws::Draws;
-use crate::headers::LARGEST;
-use crate::lists::{self, List, Rule, EVERYTHING};
+use crate::lists::{self, List, Rule, EVERYTHING, LARGEST_END};
 use crate::tree_damages::{any_damage, quiet_damage, DamagedTree};
 use crate::trees::{self, Policy};
 
@@ -61,7 +60,7 @@ fn judge_twice(bench: &mut Bench, case: &str, policy: &Policy, verdicts: &mut [u
     Ok(())
 }
 
-/// Up to three rules that end somewhere in one or two fields.
+/// Up to three rules that end somewhere in one or two fields, or go on to the largest end.
 fn small_list(draws: &mut Draws) -> List {
     let fields = [draws.below(5), draws.below(5)];
     let count = draws.below(4);
@@ -74,8 +73,9 @@ fn small_rule(draws: &mut Draws, fields: [usize; 2]) -> Rule {
         let pair = match field {
             0 | 1 => lists::prefix(draws.word(), draws.between(0, 32)),
             _ => {
-                let (one, other) = (draws.between(0, LARGEST[field]), draws.between(0, LARGEST[field]));
-                [one.min(other), one.max(other)]
+                let largest = LARGEST_END[field];
+                let (one, other) = (draws.between(0, largest), draws.between(0, largest));
+                [one.min(other), draws.pick(&[one.max(other), one.max(other), largest])]
             }
         };
         if !draws.once_in(4) {

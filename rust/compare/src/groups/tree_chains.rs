@@ -84,7 +84,7 @@ fn long_chains(bench: &mut Bench) -> Run {
             let policy = Policy::of(&[EVERYTHING], &chain(2, way, cuts, &[0]));
             let case = format!("{way:?} chain of {cuts} cuts");
             bench.tree_check(&case, &policy)?;
-            for value in [0, 32_766, 32_767, 32_768, 65_535] {
+            for value in [0, 32_767, 32_768, 32_769, 65_535, 65_536] {
                 let answer = bench.tree_searches(&case, &policy, &[1, 2, value, 3, 4])?;
                 assert_eq!((answer.number, answer.a), (0, 1), "the oracle: {case}");
             }

@@ -150,7 +150,7 @@ fn break_header(header: &mut Vec<u32>, form: usize) {
     match form {
         0 => header.truncate(4),
         1 => header.push(0),
-        2 => header[3] = 65_536,
+        2 => header[3] = 65_537,
         _ => header[4] = u32::MAX,
     }
 }

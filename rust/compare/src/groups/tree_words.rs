@@ -8,7 +8,7 @@ use crate::damages;
 use crate::draws::Draws;
 use crate::groups::tree_damage::good_tree;
 use crate::headers::{Header, LARGEST, WORKED};
-use crate::lists::{self, Manner, EVERYTHING};
+use crate::lists::{self, Manner, EVERYTHING, LARGEST_END};
 use crate::trees::{self, Policy};
 
 const PURPOSE: &str = "damage";
@@ -129,7 +129,7 @@ fn free_rules(bench: &mut Bench) -> Run {
         let count = draws.below(size + 2);
         let pool: Vec<u32> = (0..count).map(|_| draws.below(size) as u32).collect();
         let policy = Policy { rules, nodes: vec![5, 0, count as u32], pool };
-        let header = draws.pick(&[list.points[0], WORKED, LARGEST, [0; 5]]);
+        let header = draws.pick(&[list.points[0], WORKED, LARGEST, LARGEST_END, [0; 5]]);
         bench.tree_searches(&format!("seed {seed}, rules of any words"), &policy, &header)?;
     }
     worked_rules(bench)?;

@@ -44,7 +44,7 @@ fn nine_rules(bench: &mut Bench) -> Run {
             let rules: Vec<Rule> = (0..9).map(rule).collect();
             let case = format!("{whole} of nine rules for all ports of field {field}");
             let tree = build_well(bench, &case, &rules)?;
-            // The port has as many values as the others are, and one more. It is cut where the protocol has no more.
+            // The port has one value more than there are others, and is cut where the protocol does not have more.
             let root = match whole {
                 0..=5 => [field as u32, whole + (10 - whole) / 2],
                 _ => [4, 100 + whole / 2],

@@ -1,6 +1,7 @@
 //! Packets without ports, searched for: ranges of every kind against the values about 65,536, by every search.
 
 use oracle::header::ABSENT_PORT;
+use oracle::parts::Part;
 use oracle::Answer;
 
 use crate::bench::{Bench, Run};
@@ -69,11 +70,12 @@ pub fn takes([low, high]: [u32; 2], port: u32) -> bool {
     }
 }
 
-/// What a search for all and one for the first must give, by list and by tree alike: the refusal of the header, or how
-/// many rules match and the first of them.
+/// What every search must come to.
 #[derive(Clone, Copy)]
 enum Wanted {
+    /// The header is refused at this field.
     Refused { field: usize },
+    /// The second rule matches. Does the first one?
     Found { first: bool },
 }
 
@@ -101,10 +103,11 @@ fn search(bench: &mut Bench, case: &str, rule: Rule, header: &Header, wanted: Wa
 }
 
 /// A cut of this port that leaves the absent one on the right, and both rules on both sides.
-fn halves(field: usize) -> oracle::parts::Part {
+fn halves(field: usize) -> Part {
     cut(field, LARGEST_END[field], leaf(&[0, 1]), leaf(&[0, 1]))
 }
 
+/// The answers of a search for the first and of one for all.
 fn expect(case: &str, one: Answer, several: Answer, wanted: Wanted) {
     let given = [one, several].map(|answer| (answer.number, answer.place, answer.a));
     let (answers, action) = match wanted {
@@ -179,13 +182,12 @@ fn drawn_lists(bench: &mut Bench) -> Run {
 
 /// Searches the list and the tree, which must give the same. Says how many rules match.
 pub fn search_policy(bench: &mut Bench, case: &str, policy: &Policy, header: &Header) -> Result<u64, String> {
-    let listed = bench.line_all(case, &policy.rules, header, policy.rule_count() as usize)?;
-    let first = bench.line_first(case, &policy.rules, header)?;
-    let found = bench.tree_searches(case, policy, header)?;
-    let one = bench.tree_first(case, policy, header)?;
-    assert_eq!((listed.number, listed.a), (found.number, found.a), "the oracle: {case}, {header:?}");
-    assert_eq!((first.number, first.a, first.d), (one.number, one.a, one.d), "the oracle: {case}, {header:?}");
-    Ok(listed.a)
+    let room = policy.rule_count() as usize;
+    let by_list = [bench.line_first(case, &policy.rules, header)?, bench.line_all(case, &policy.rules, header, room)?];
+    let by_tree = [bench.tree_first(case, policy, header)?, bench.tree_all(case, policy, header, room)?];
+    let [listed, found] = [by_list, by_tree].map(|both| both.map(|answer| (answer.number, answer.a, answer.d)));
+    assert_eq!(listed, found, "the oracle: {case}, {header:?}");
+    Ok(by_list[1].a)
 }
 
 /// Neither search judges the rules, or the tree: any ranges, cuts at any value about 65,535, entries in any order.

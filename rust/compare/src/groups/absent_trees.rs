@@ -1,17 +1,20 @@
 //! Packets without ports in the tree check: cuts about 65,535, and leaves that are right or wrong for the absent port.
 
+use oracle::Answer;
+
 use crate::bench::{Bench, Run};
-use crate::groups::absent_ports::{takes, WHOLE};
+use crate::groups::absent_ports::{search_policy, takes, without_ports, WHOLE};
 use crate::groups::build_cases::AMPLE;
 use crate::groups::part_others::finish;
 use crate::headers::{self, LARGEST, PORTS, WORKED};
-use crate::lists::Rule;
-use crate::shared_ends::{put, with};
+use crate::lists::{Rule, EVERYTHING};
+use crate::shared_ends::with;
 use crate::trees::{cut, leaf, Policy};
 
 pub fn run(bench: &mut Bench) -> Run {
     bench.group("correctness", "absent ports: trees cut about 65,535, every set of entries in both leaves", leaves)?;
-    bench.group("damage", "absent ports: cuts below cuts about 65,535, whole and stopped anywhere", chosen)
+    bench.group("damage", "absent ports: cuts below cuts about 65,535, whole and stopped anywhere", chosen)?;
+    bench.group("damage", "absent ports: both ports parted, each entry of each leaf dropped", both_ports)
 }
 
 /// Ranges of a port: all, all but the first ones, the last, and all but the last.
@@ -151,7 +154,11 @@ fn chosen(bench: &mut Bench) -> Run {
     for field in PORTS {
         let other = if field == PORTS[0] { PORTS[1] } else { PORTS[0] };
         for (case, nodes, pool, wanted) in CASES {
-            let named = |first: u32| [field, other].get(first as usize - 2).map_or(first, |&field| field as u32);
+            let named = |first: u32| match first {
+                OWN => field as u32,
+                OTHER => other as u32,
+                leaf => leaf,
+            };
             let nodes = nodes.iter().flat_map(|&[first, second, third]| [named(first), second, third]).collect();
             let policy = Policy { rules: rules(field).concat(), nodes, pool: pool.to_vec() };
             let case = format!("{case}, in field {field}");
@@ -174,11 +181,32 @@ fn chosen(bench: &mut Bench) -> Run {
             }
         }
     }
-    // Both ports at once: rules that are whole in one port, or in none.
-    let rules = [with(2, WHOLE), with(2, [0, 1_023]), put(with(2, WHOLE), 3, [1, 65_535]), with(4, [6, 6])];
-    let policy =
-        Policy::of(&rules, &cut(2, 65_535, leaf(&[0, 1, 2, 3]), cut(3, 65_535, leaf(&[0, 2, 3]), leaf(&[0, 3]))));
-    let answer = bench.tree_check("rules that are whole in one port", &policy)?;
-    assert_eq!((answer.number, answer.a, answer.b), (0, 2, 4), "the oracle: rules that are whole in one port");
+    Ok(())
+}
+
+/// The tree parts packets with a source port, packets without it, and packets without either. Each entry of each leaf
+/// is needed there.
+fn both_ports(bench: &mut Bench) -> Run {
+    let rules = [EVERYTHING, with(2, [0, 1_023]), with(3, [1, 65_535]), with(4, [6, 6])];
+    let planted = |[with_source, without, neither]: [Vec<u32>; 3]| {
+        let right = cut(3, 65_535, leaf(&without), leaf(&neither));
+        Policy::of(&rules, &cut(2, 65_535, leaf(&with_source), right))
+    };
+    let leaves = [vec![0, 1, 2, 3], vec![0, 2, 3], vec![0, 3]];
+    let policy = planted(leaves.clone());
+    let answer = bench.tree_check("both ports parted", &policy)?;
+    assert_eq!(answer, Answer::completed(2, 4, 0), "the oracle: both ports parted");
+    for header in without_ports(WORKED).into_iter().chain([WORKED]) {
+        search_policy(bench, "both ports parted", &policy, &header)?;
+    }
+    for (which, node) in [1, 3, 4].into_iter().enumerate() {
+        for place in 0..leaves[which].len() {
+            let mut lacking = leaves.clone();
+            let rule = lacking[which].remove(place);
+            let case = format!("both ports parted, node {node} without rule {rule}");
+            let answer = bench.tree_check(&case, &planted(lacking))?;
+            assert_eq!((answer.number, answer.place, answer.extra), (8, node, u64::from(rule)), "the oracle: {case}");
+        }
+    }
     Ok(())
 }

@@ -1,11 +1,11 @@
 -- Ranges of ports: the tests one by one, and that a good range matches exactly the values up to its end.
-use Prim.Native.Nat.{ℕ, _≤_}
+use Prim.Native.Nat.{ℕ, _≤_, _<_}
 use native.Mathlib.Omega.{arith}
 use mathlib.Core.Bool.{true, false}
 use mathlib.Core.Path.{_≡_, sym, _∙_}
 use mathlib.Core.Logic.{_↔_, _⊎_, inl, inr}
 use lib.Dec.{leb, eqb}
-use borrow.Author.Tests.{leb-true, eqb-true, eq-eqb, ne-eqb}
+use borrow.Author.Tests.{leb-true, le-leb, lt-leb, eqb-true, eq-eqb, ne-eqb}
 use Rattle.facts.proofs.Bools.{both, join, sure, clash}
 use Rattle.facts.proofs.Cases.{same-or-not}
 use Rattle.fields.specs.Words.{largestPort, absentPort}
@@ -30,6 +30,20 @@ module _ (low high : ℕ) where
   pub absent-matches : {x : ℕ} → x ≡ absentPort → portsMatch low high x ≡ wholePorts low high
   unfolding portsMatch
   absent-matches {x} e = rw (eq-eqb x absentPort e)
+
+  -- no port below the low end matches
+  pub below-matches-not : {x : ℕ} → x < low → false ≡ portsMatch low high x
+  unfolding portsMatch wholePorts rangeHolds
+  below-matches-not {x} l = go (same-or-not x absentPort)
+    where
+      go : (x ≡ absentPort) ⊎ (x ≡ absentPort → ⊥) → false ≡ portsMatch low high x
+      go (inl e) = rw (eq-eqb x absentPort e, ne-eqb low 0 (λ z. omega arith))
+      go (inr d) = rw (ne-eqb x absentPort d, lt-leb low x l)
+
+  -- a port that is not absent, and not below the low end, is judged by the high end
+  pub high-decides : {x : ℕ} → low ≤ x → (x ≡ absentPort → ⊥) → leb x high ≡ portsMatch low high x
+  unfolding portsMatch rangeHolds
+  high-decides {x} l d = rw (ne-eqb x absentPort d, le-leb low x l)
 
   -- any other port matches where it lies in the range
   pub present-matches : {x : ℕ} → (x ≡ absentPort → ⊥) → portsMatch low high x ≡ rangeHolds low high x

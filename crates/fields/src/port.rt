@@ -1,5 +1,4 @@
 // Ranges of ports. A header's port may be absent: a later fragment has none, nor has an ICMP packet.
-use crate::range::range_holds;
 ghost use mathlib.Core.Path.{_≡_};
 ghost use Rattle.fields.specs.Ports.{wholePorts, portsMatch, portsEnd};
 
@@ -10,14 +9,17 @@ pub(crate) const LARGEST_PORT: u32 = 65_535;
 pub(crate) const ABSENT_PORT: u32 = 65_536;
 
 // Whether a port matches the range: an absent one matches the whole range alone, whatever the words, and any other lies
-// in the range.
+// in the range. Most rules that do not match are told by the first test.
 pub(crate) fn ports_match(low: u32, high: u32, port: u32) -> bool
     ensures { λ r. ⌜ r ≡ portsMatch low high port ⌝ }
 {
+    if port < low {
+        return false;
+    }
     if port == ABSENT_PORT {
         return whole_ports(low, high);
     }
-    range_holds(low, high, port)
+    port <= high
 }
 
 // The last value that a good range matches: its high end, or the absent port where the range is whole.

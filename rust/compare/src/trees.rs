@@ -4,6 +4,7 @@
 use oracle::boxes::{Side, Sides};
 use oracle::build::{compile, LARGEST_ROOM};
 use oracle::builder::{self, Limits};
+use oracle::corners::{self, Verdict};
 use oracle::nodes::{MOST_ENTRIES, MOST_NODES};
 use oracle::parts::{Part, Places, TreeWords};
 use oracle::rules::{self, judge_rules, rule_of, RULE_WORDS};
@@ -41,6 +42,18 @@ impl Policy {
         let words = TreeWords { nodes: self.nodes.clone(), pool: self.pool.clone() };
         let TreeWords { nodes, pool } = words.stop_after(node_count as u64);
         Policy { rules: self.rules.clone(), nodes, pool }
+    }
+
+    /// Judges the tree by the headers at every corner, if they are at most so many: it must be right for its list. Says
+    /// how many they were.
+    pub fn judge_small(&self, case: &str, most: u64) -> Option<u64> {
+        let Policy { rules, nodes, pool } = self;
+        let count = corners::header_count(&corners::corners_of(rules, nodes));
+        if count > most {
+            return None;
+        }
+        assert_eq!(corners::judge_by_corners(rules, nodes, pool), Verdict::Right, "the oracle: {case}");
+        Some(count)
     }
 }
 

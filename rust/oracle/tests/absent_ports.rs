@@ -22,9 +22,21 @@ fn is_found(rule: &Rule, header: &[u32; 5]) -> bool {
     found == 1
 }
 
+/// Tries a range of either port: it takes these of the ports 0, 1, 65,534, 65,535 and the absent one. How the list is
+/// judged is held to what the caller says.
+fn try_range(range: [u32; 2], taken: [bool; 5], judge: impl Fn(&Rule, &[u32; 5], bool)) {
+    for field in PORTS {
+        let rule = with(field, range);
+        for (port, is_taken) in [0, 1, 65_534, 65_535, 65_536].into_iter().zip(taken) {
+            let header = head(field, port);
+            assert_eq!(is_found(&rule, &header), is_taken, "{range:?} and {port}");
+            judge(&rule, &header, is_taken);
+        }
+    }
+}
+
 #[test]
 fn good_ranges() {
-    // The range, and whether it takes the ports 0, 1, 65,534, 65,535 and the absent one.
     for (range, taken) in [
         ([0, 65_535], [true, true, true, true, true]),
         ([0, 65_534], [true, true, true, false, false]),
@@ -34,14 +46,10 @@ fn good_ranges() {
         ([0, 1_023], [true, true, false, false, false]),
         ([1_024, 65_535], [false, false, true, true, false]),
     ] {
-        for field in PORTS {
-            let rule = with(field, range);
-            assert_eq!(rule_check(&rule), Answer::completed(1, 0, 0));
-            for (port, is_taken) in [0, 1, 65_534, 65_535, 65_536].into_iter().zip(taken) {
-                assert_eq!(is_found(&rule, &head(field, port)), is_taken, "{range:?} and {port}");
-                assert_eq!(line_first(&rule, &head(field, port)).a, u64::from(is_taken));
-            }
-        }
+        try_range(range, taken, |rule, header, is_taken| {
+            assert_eq!(rule_check(rule), Answer::completed(1, 0, 0));
+            assert_eq!(line_first(rule, header).a, u64::from(is_taken));
+        });
     }
 }
 
@@ -61,14 +69,10 @@ fn ranges_that_are_not_good() {
         ([65_535, 0], [false, false, false, false, false]),
         ([65_536, 65_535], [false, false, false, false, false]),
     ] {
-        for field in PORTS {
-            let rule = with(field, range);
-            assert_eq!(rule_check(&rule), refused(2, 0, 0));
-            for (port, is_taken) in [0, 1, 65_534, 65_535, 65_536].into_iter().zip(taken) {
-                assert_eq!(is_found(&rule, &head(field, port)), is_taken, "{range:?} and {port}");
-                assert_eq!(line_first(&rule, &head(field, port)), refused(2, 0, 0));
-            }
-        }
+        try_range(range, taken, |rule, header, _| {
+            assert_eq!(rule_check(rule), refused(2, 0, 0));
+            assert_eq!(line_first(rule, header), refused(2, 0, 0));
+        });
     }
 }
 

@@ -1,8 +1,6 @@
 //! Packets without ports in the compiler: lists whose ranges end at 65,535 or are whole, and trees and parts that were
 //! compiled before a port could be absent.
 
-use oracle::corners::{self, Verdict};
-
 use crate::bench::{Bench, Run};
 use crate::draws::Draws;
 use crate::groups::absent_ports::{search_policy, without_ports, WHOLE};
@@ -103,10 +101,7 @@ fn drawn_builds(bench: &mut Bench) -> Run {
                 search_policy(bench, &case, &tree, &header)?;
             }
         }
-        let Policy { rules, nodes, pool } = &tree;
-        let count = corners::header_count(&corners::corners_of(rules, nodes));
-        if count <= MOST_HEADERS {
-            assert_eq!(corners::judge_by_corners(rules, nodes, pool), Verdict::Right, "the oracle: {case}");
+        if let Some(count) = tree.judge_small(&case, MOST_HEADERS) {
             bench.count_judged(count);
             judged += 1;
         }

@@ -1,7 +1,5 @@
 //! Correctness of the compiler: drawn lists. What is built is accepted by the check, and answers as the list does.
 
-use oracle::corners::{self, Verdict};
-
 use crate::bench::{Bench, Run};
 use crate::draws::Draws;
 use crate::groups::build_cases::AMPLE;
@@ -97,13 +95,9 @@ fn small_lists(bench: &mut Bench) -> Run {
         let size = draws.between(9, 14) as usize;
         let rules = shared_ends::list(&mut draws, size);
         let case = format!("seed {seed}, list of {size} with few ends");
-        let Some(Policy { rules: words, nodes, pool }) = trees::compiled(&rules) else { continue };
-        let count = corners::header_count(&corners::corners_of(&words, &nodes));
-        if count > MOST_HEADERS {
-            continue;
-        }
+        let Some(tree) = trees::compiled(&rules) else { continue };
+        let Some(count) = tree.judge_small(&case, MOST_HEADERS) else { continue };
         build_and_search(bench, &case, &rules, &mut draws)?;
-        assert_eq!(corners::judge_by_corners(&words, &nodes, &pool), Verdict::Right, "the oracle: {case}");
         bench.count_judged(count);
         judged += 1;
     }

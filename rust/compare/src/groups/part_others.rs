@@ -1,6 +1,5 @@
 //! Parts that others have made: well formed as far as they go. What comes out is accepted by the check.
 
-use oracle::corners::{self, Verdict};
 use oracle::nodes::MOST_NODES;
 use oracle::parts::Part;
 use oracle::Answer;
@@ -78,10 +77,7 @@ fn drawn_parts(bench: &mut Bench) -> Run {
                 continue;
             }
             fitting += 1;
-            let Policy { rules, nodes, pool } = &whole;
-            let count = corners::header_count(&corners::corners_of(rules, nodes));
-            if count <= MOST_HEADERS {
-                assert_eq!(corners::judge_by_corners(rules, nodes, pool), Verdict::Right, "the oracle: {case}");
+            if let Some(count) = whole.judge_small(&case, MOST_HEADERS) {
                 bench.count_judged(count);
                 judged += 1;
             }

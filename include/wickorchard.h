@@ -86,7 +86,8 @@ enum {
     /* The rule words are not a multiple of eleven, or over 5,632; or a tree or a part to write is for more than 512
      * rules. */
     WICK_RULE_WORDS_WRONG = 1,
-    /* A rule is not good: place is the lowest such rule. For wick_rules_write, also where its action is not 0. */
+    /* A rule is not good: place is the lowest such rule. For wick_rules_write, also where its action is not 0. For
+     * wick_rule_misses, also where the list has no such rule: place is the number as given. */
     WICK_RULE_NOT_GOOD = 2,
     /* The header is not five words: place 5. Or a port or the protocol is too large: place is the lowest such field. */
     WICK_HEADER_WRONG = 3,
@@ -162,6 +163,12 @@ void wick_scan_all(const uint32_t *rules, uint64_t rules_len, const uint32_t *he
  * rule's number + 1, or 0 where none matches, and d: its word 10 as it stands, or 0 where none matches. */
 void wick_scan_first(const uint32_t *rules, uint64_t rules_len, const uint32_t *header, uint64_t header_len,
                      wick_answer *answer);
+
+/* Why did this rule miss? Judges the list, then compares its rule `number`, counted from 0, with the header. Refuses
+ * with 1, 2, 11, 3, then 2 where the list has no rule of this number: place is then the number as given. a: the lowest
+ * field of the header, 0 to 4, that disagrees with the rule, or 5 where the rule matches. */
+void wick_rule_misses(const uint32_t *rules, uint64_t rules_len, const uint32_t *header, uint64_t header_len,
+                      uint64_t number, wick_answer *answer);
 
 /* Searches the tree for every rule of the reached leaf that matches. WARNING: it takes any words and judges neither the
  * list nor the tree. Search only a tree that wick_tree_check has accepted, or wick_build has built, for these rules:

@@ -32,7 +32,7 @@ enum { SHARED = 0x01, PRIVATE = 0x02, FIXED = 0x10, NO_FILE = 0x20 }; // MAP_..,
 // The calls' numbers, as `abi.rs` has them.
 enum { RULE_CHECK = 1, LINE_ALL = 2, LINE_FIRST = 3, TREE_ALL = 4, TREE_FIRST = 5, TREE_CHECK = 6 };
 enum { RULES_WRITE = 7, RULES_READ = 8, TREE_WRITE = 9, TREE_READ = 10, SCAN_ALL = 11, SCAN_FIRST = 12, BUILD = 13 };
-enum { BUILD_SOME = 14, BUILD_ON = 15, PART_WRITE = 16, PART_READ = 17, ACL_WRITE = 18 };
+enum { BUILD_SOME = 14, BUILD_ON = 15, PART_WRITE = 16, PART_READ = 17, ACL_WRITE = 18, RULE_MISSES = 19 };
 
 // The bytes on either side of the arena that a call may not touch: one that does ends the program.
 enum { MARGIN = 1 << 20 };
@@ -112,6 +112,9 @@ static u64 make_call(char *arena, const struct request *asked) {
     case ACL_WRITE:
         wick_acl_write(WORDS(0), BYTES(1), answer);
         return ACL_WRITE;
+    case RULE_MISSES:
+        wick_rule_misses(WORDS(0), WORDS(1), asked->numbers[0], answer);
+        return RULE_MISSES;
     default:
         return 0;
     }

@@ -1,4 +1,5 @@
 -- Every claim holds.
+use Rattle.rules.proofs.Misses.{matches-iff-agree}
 use Rattle.claims.specs.Claims.{Claims}
 use Rattle.claims.proofs.Demand1.{code-claim, calls-claim}
 use Rattle.claims.proofs.Demand2.{twins-claim, matching-claim, by-tree-claim}
@@ -6,6 +7,7 @@ use Rattle.claims.proofs.Demand2.{rule-file-claim, rule-kind-claim}
 use Rattle.claims.proofs.Demand2.{tree-file-claim, part-file-claim, tree-or-part-claim}
 use Rattle.claims.proofs.Absent.{absent-claim}
 use Rattle.claims.proofs.Actions.{actions-claim}
+use Rattle.claims.proofs.Misses.{misses-claim, why-claim}
 use Rattle.claims.proofs.Demand3.{tree-check-claim}
 use Rattle.claims.proofs.Parts.{part-check-claim}
 use Rattle.claims.proofs.Compiler.{compiler-claim}
@@ -22,6 +24,9 @@ claims =
       matching = matching-claim;
       absent = absent-claim;
       actions = actions-claim;
+      by-fields = matches-iff-agree;
+      misses = misses-claim;
+      why = why-claim;
       by-tree = by-tree-claim;
       rule-file = rule-file-claim;
       rule-kind = rule-kind-claim;

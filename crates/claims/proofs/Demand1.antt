@@ -9,7 +9,7 @@ use Rattle.refusals.specs.declared.Verdict.the-variants.{Fine}
 use Rattle.refusals.specs.Promises.{WritesBoth, value}
 use Rattle.refusals.proofs.Order.{refused-not-fine}
 use Rattle.refusals.proofs.Promises.{says-unique, writes-only}
-use Rattle.rules.proofs.Unique.{checked-apart, listed-apart, first-apart}
+use Rattle.rules.proofs.Unique.{checked-apart, listed-apart, first-apart, missed-apart}
 use Rattle.trees.specs.Words.{nodeWords, nodeCount}
 use Rattle.trees.proofs.Sizes.{sizes-fine-iff}
 use Rattle.trees.proofs.Unique as trees
@@ -52,6 +52,7 @@ code-claim = (
   in-rules.line.line_first.Met.met,
   in-rules.line.scan_all.Met.met,
   in-rules.line.scan_first.Met.met,
+  in-rules.miss.rule_misses.Met.met,
   in-trees.search.tree_all.Met.met,
   in-trees.search.tree_first.Met.met,
   in-check.check.tree_check.Met.met,
@@ -68,6 +69,7 @@ code-claim = (
   in-builder.step.build_on.Met.met,
   in-console.reply.reply.Met.met,
   in-console.feed.feed.Met.met,
+  in-console.feed.feed_why.Met.met,
   in-console.feed.last_reply.Met.met,
   in-policy.list.take_list.Met.met,
   in-policy.tree.take_tree.Met.met,
@@ -83,6 +85,7 @@ code-claim = (
   exports.line.wick_line_first.Met.met,
   exports.line.wick_scan_all.Met.met,
   exports.line.wick_scan_first.Met.met,
+  exports.line.wick_rule_misses.Met.met,
   exports.tree.wick_tree_all.Met.met,
   exports.tree.wick_tree_first.Met.met,
   exports.tree.wick_tree_check.Met.met,
@@ -139,6 +142,7 @@ calls-claim =
       line-first = λ rs h r s p q. says-unique first-apart p q;
       scan-all = λ rs h w. writes-only listed-apart (λ r a p. p) (λ e. refl);
       scan-first = λ rs h r s p q. says-unique first-apart p q;
+      rule-misses = λ rs h n r s p q. says-unique missed-apart p q;
       tree-all = λ rs ns es h w. writes-only trees.listed-apart (λ r a p. p) (λ e. refl);
       tree-first = λ rs ns es h r s p q. says-unique trees.first-apart p q;
       tree-check = λ rs ns es r s p q. says-unique answer-apart p q;

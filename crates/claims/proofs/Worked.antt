@@ -12,8 +12,9 @@ use Rattle.fields.specs.Ports.{wholePorts, portsMatch, portsEnd}
 use Rattle.rules.specs.Twins.{sameWords, earlierTwin, twinVerdict, twinsVerdict}
 use Rattle.rules.specs.Good.{fieldsGood, goodTo, ruleVerdict, rulesVerdict, listVerdictTo}
 use Rattle.rules.specs.Lacking.{lacking, lowestLacking}
-use Rattle.rules.specs.Matching.{matches, matching, ruleBox}
+use Rattle.rules.specs.Matching.{agrees, firstMiss, matches, matching, ruleBox}
 use Rattle.rules.specs.LineAll.{allVerdict}
+use Rattle.rules.specs.RuleMisses.{thereVerdict, missVerdict}
 use Rattle.trees.specs.Words.{entries, sizeVerdict}
 use Rattle.trees.specs.Walk.{sideOf, stepOf, walk, walkOf}
 use Rattle.trees.specs.Search.{leafVerdict, reachVerdict, leafList, treeList, lookedAt}
@@ -27,10 +28,10 @@ pub worked : AllHold table
 unfolding allBelow lowest upFrom keep has rises allUnder refuseUnless roomVerdict _then_ inTurn _giving_ meets
     divides leftOf rightOf fieldVerdict headerVerdict span prefixGood prefixAgrees prefixEnds rangeGood
     rangeHolds rangesMeet wholePorts portsMatch portsEnd sameWords earlierTwin twinVerdict twinsVerdict fieldsGood
-    goodTo ruleVerdict rulesVerdict listVerdictTo lacking lowestLacking matches matching ruleBox entries
-    leaving written allVerdict sizeVerdict sideOf stepOf walk walkOf leafVerdict reachVerdict leafList treeList
-    lookedAt treeAllVerdict leafCount countsBelow leafSpelt nodeVerdict speltVerdict lackOf leafPart cutPart
-    nodePart preorderOf rootPart wordsVerdict checkVerdict
+    goodTo ruleVerdict rulesVerdict listVerdictTo lacking lowestLacking agrees firstMiss matches matching ruleBox
+    entries leaving written allVerdict thereVerdict missVerdict sizeVerdict sideOf stepOf walk walkOf leafVerdict
+    reachVerdict leafList treeList lookedAt treeAllVerdict leafCount countsBelow leafSpelt nodeVerdict speltVerdict
+    lackOf leafPart cutPart nodePart preorderOf rootPart wordsVerdict checkVerdict
 worked = (
   (
     record { answers = refl; leaves = refl },
@@ -91,7 +92,19 @@ worked = (
                   record { answers = refl },
                   (
                     record { answers = refl },
-                    (record { answers = refl }, (record { answers = refl }, tt)),
+                    (
+                      record { answers = refl },
+                      (
+                        record { answers = refl },
+                        (
+                          record { answers = refl },
+                          (
+                            record { answers = refl },
+                            (record { answers = refl }, (record { answers = refl }, tt)),
+                          ),
+                        ),
+                      ),
+                    ),
                   ),
                 ),
               ),

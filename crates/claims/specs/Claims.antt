@@ -1,11 +1,16 @@
 -- EVERY CLAIM, in one record: `claims` (proofs/Claims.antt) is its one proof. M is the prover's own parameter.
 use Prim.Native.Nat.{ℕ}
+use mathlib.Core.Path.{_≡_}
 use mathlib.Core.List.{List}
+use Rattle.refusals.specs.declared.Verdict.the-variants.{Fine}
+use Rattle.fields.specs.Headers.{Legal}
+use Rattle.rules.specs.Good.{listVerdict}
 use Rattle.tree_check.specs.Serves.{Serves}
 use Rattle.claims.specs.Demand1.{Code, Calls}
 use Rattle.claims.specs.Demand2.{Twins, Matching, ByTree, RuleFile, RuleKind, TreeFile, PartFile, TreeOrPart}
 use Rattle.claims.specs.Absent.{Absent}
 use Rattle.claims.specs.Actions.{Actions}
+use Rattle.claims.specs.Misses.{ByFields, Misses, Why}
 use Rattle.claims.specs.Demand3.{TreeCheck}
 use Rattle.claims.specs.Parts.{PartCheck}
 use Rattle.claims.specs.Compiler.{Compiler}
@@ -20,6 +25,9 @@ pub record Claims : Type 2 where
   pub matching : Matching
   pub absent : Absent
   pub actions : Actions
+  pub by-fields : ByFields
+  pub misses : (rs h : List ℕ) (n : ℕ) → listVerdict rs ≡ Fine → Legal h → Misses rs h n
+  pub why : (rs : List ℕ) (n : ℕ) → Why rs n
   pub by-tree : (rs ns es : List ℕ) → Serves rs ns es → ByTree rs ns es
   pub rule-file : RuleFile
   pub rule-kind : RuleKind

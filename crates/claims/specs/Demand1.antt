@@ -30,7 +30,8 @@ abbrev pub Code : Type 1 → Type 2
 Code M =
     in-rules.check.rule_check.Statement.statement M × in-rules.line.line_all.Statement.statement M ×
     in-rules.line.line_first.Statement.statement M × in-rules.line.scan_all.Statement.statement M ×
-    in-rules.line.scan_first.Statement.statement M × in-trees.search.tree_all.Statement.statement M ×
+    in-rules.line.scan_first.Statement.statement M × in-rules.miss.rule_misses.Statement.statement M ×
+    in-trees.search.tree_all.Statement.statement M ×
     in-trees.search.tree_first.Statement.statement M × in-check.check.tree_check.Statement.statement M ×
     in-check.part.part_check.Statement.statement M ×
     in-rule-file.write.rules_write.Statement.statement M × in-rule-file.write.acl_write.Statement.statement M ×
@@ -39,7 +40,8 @@ Code M =
     in-tree-file.write.part_write.Statement.statement M × in-tree-file.read.part_read.Statement.statement M ×
     in-builder.build.build.Statement.statement M × in-builder.step.build_some.Statement.statement M ×
     in-builder.step.build_on.Statement.statement M × in-console.reply.reply.Statement.statement M ×
-    in-console.feed.feed.Statement.statement M × in-console.feed.last_reply.Statement.statement M ×
+    in-console.feed.feed.Statement.statement M × in-console.feed.feed_why.Statement.statement M ×
+    in-console.feed.last_reply.Statement.statement M ×
     in-policy.list.take_list.Statement.statement M × in-policy.tree.take_tree.Statement.statement M ×
     in-policy.serving.who_serves.Statement.statement M × in-policy.line.verdict_line.Statement.statement M ×
     in-policy.compiled.compile_text.Statement.statement M × in-policy.part.take_part.Statement.statement M ×
@@ -47,6 +49,7 @@ Code M =
     in-policy.step.on_text.Statement.statement M × exports.line.wick_rule_check.Statement.statement M ×
     exports.line.wick_line_all.Statement.statement M × exports.line.wick_line_first.Statement.statement M ×
     exports.line.wick_scan_all.Statement.statement M × exports.line.wick_scan_first.Statement.statement M ×
+    exports.line.wick_rule_misses.Statement.statement M ×
     exports.tree.wick_tree_all.Statement.statement M × exports.tree.wick_tree_first.Statement.statement M ×
     exports.tree.wick_tree_check.Statement.statement M × exports.rule_text.wick_rules_write.Statement.statement M ×
     exports.rule_text.wick_acl_write.Statement.statement M ×
@@ -61,6 +64,7 @@ pub record Calls : Type 0 where
   pub line-first : (rs h : List ℕ) → Fixes (rules.LineFirst.LineFirstSearched rs h)
   pub scan-all : (rs h w : List ℕ) → WritesOnly w (rules.Scan.ScanAllSearched rs h w) rules.LineAll.paper (value 0)
   pub scan-first : (rs h : List ℕ) → Fixes (rules.Scan.ScanFirstSearched rs h)
+  pub rule-misses : (rs h : List ℕ) (n : ℕ) → Fixes (rules.RuleMisses.RuleCompared rs h n)
   pub tree-all :
       (rs ns es h w : List ℕ) → WritesOnly w (trees.TreeAll.TreeAllSearched rs ns es h w) trees.TreeAll.paper (value 2)
   pub tree-first : (rs ns es h : List ℕ) → Fixes (trees.TreeFirst.TreeFirstSearched rs ns es h)

@@ -3,6 +3,7 @@ pub mod Demand1
 pub mod Demand2
 pub mod Absent
 pub mod Actions
+pub mod Misses
 pub mod Demand3
 pub mod Parts
 pub mod Compiler

@@ -2,16 +2,20 @@
 -- call's promise allows. Destination is 192.168.0.1 and source port 40,000 throughout. Statements only.
 --   search h ms n c f a    header h: list ms and first f, by list and tree; n nodes, c compared, and a for the first
 --   check rs ns es r       the tree check of nodes ns and pool es for the list rs answers r
+--   misses h k r           the call that says why a rule missed answers r of rule k and header h
 use Prim.Native.Nat.{ℕ, _+_, _*_}
 use mathlib.Core.List.{List, [], _∷_}
 use lib.ListN.{length}
 use Rattle.facts.specs.Lists.{written}
-use Rattle.refusals.specs.declared.Refusal.the-variants.{NodeWrong, LeafLacksRule}
+use Rattle.refusals.specs.declared.Refusal.the-variants.{RuleNotGood, NodeWrong, LeafLacksRule}
 use Rattle.fields.specs.Words.{absentPort}
 use Rattle.rules.specs.declared.line.Listed.the-variants as line
 use Rattle.rules.specs.declared.line.First.the-variants as first
+use Rattle.rules.specs.declared.miss.Missed.{Missed}
+use Rattle.rules.specs.declared.miss.Missed.the-variants as missed
 use Rattle.rules.specs.LineAll.{LineAllSearched}
 use Rattle.rules.specs.LineFirst.{LineFirstSearched}
+use Rattle.rules.specs.RuleMisses.{RuleCompared}
 use Rattle.trees.specs.declared.search.TreeListed.the-variants as tree-all
 use Rattle.trees.specs.declared.search.TreeFirst.the-variants as tree-first
 use Rattle.trees.specs.TreeAll.{TreeAllSearched}
@@ -45,6 +49,7 @@ room = 0 ∷ 0 ∷ 0 ∷ []
 pub data Row : Type 0 where
   search : List ℕ → List ℕ → ℕ → ℕ → ℕ → ℕ → Row
   check : List ℕ → List ℕ → List ℕ → TreeAnswer → Row
+  misses : List ℕ → ℕ → Missed → Row
 
 abbrev pub AllHold : List Row → Type 0
 AllHold [] = Unit {0}
@@ -54,6 +59,7 @@ AllHold (search h ms n c f a ∷ rows) =
     TreeAllSearched rules tree pool h room (tree-all.Found (length ms) n c) (written ms room) ×
     TreeFirstSearched rules tree pool h (tree-first.Rule f 0 n a)) × AllHold rows
 AllHold (check rs ns es r ∷ rows) = TreeChecked rs ns es r × AllHold rows
+AllHold (misses h k r ∷ rows) = RuleCompared rules h k r × AllHold rows
 
 abbrev pub table : List Row
 table =
@@ -68,4 +74,8 @@ table =
     check rules tree pool (Accepted 2 3) ∷
     check rules (nodes 184549375 2) (2 ∷ 0 ∷ 2 ∷ 2 ∷ []) (Refused (LeafLacksRule 3 1)) ∷
     check rules (nodes 167772159 3) pool (Refused (NodeWrong 2)) ∷
-    check [] (5 ∷ 0 ∷ 0 ∷ []) [] (Accepted 0 0) ∷ []
+    check [] (5 ∷ 0 ∷ 0 ∷ []) [] (Accepted 0 0) ∷
+    misses (from 10 1 2 3 80 6) 0 (missed.At 5) ∷
+    misses (from 11 0 0 0 443 17) 0 (missed.At 0) ∷
+    misses (from 10 1 2 3 1024 17) 1 (missed.At 3) ∷
+    misses (from 10 1 2 3 80 6) 3 (missed.Refused (RuleNotGood 3)) ∷ []

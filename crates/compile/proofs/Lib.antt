@@ -1,4 +1,3 @@
--- The laws of the compiler: what is due for a list, at once and in steps, and the number that an argument says.
+-- The laws of the compiler: what is due for a list, at once and in steps.
 pub mod Due
 pub mod StepDue
-pub mod Telling

@@ -20,6 +20,7 @@ use rules::words::MOST_RULES;
 use rules::words::RULE_WORDS;
 use steps::write_first;
 use steps::write_next;
+use system::load::RULES_FILE;
 use system::load::load;
 use system::out::say_verdict;
 use system::out::write_front;
@@ -31,8 +32,6 @@ ghost use Rattle.refusals.specs.declared.Verdict.the-variants as verdict;
 ghost use Rattle.policy.specs.Files.{ListOfFile, mostFile};
 ghost use Rattle.policy.specs.Compiled.{largestBuild, builtText};
 ghost use Rattle.system.specs.Handed.{InFront};
-
-const RULES_FILE: [u8; 9] = *b"rules.txt";
 
 // Nothing is written for wrong arguments.
 fn main() {

@@ -1,5 +1,5 @@
--- The list is judged once: what then answers headers, and that it answers each header as if the list were judged for
--- that one.
+-- What is asked of headers. The list is judged once: what then answers them, and that it answers each header as if the
+-- list were judged for that one.
 use Prim.Native.Nat.{ℕ}
 use mathlib.Core.Bool.{Bool, true, false}
 use mathlib.Core.Path.{_≡_, refl, ap, _∙_, subst, fun-ext}
@@ -15,8 +15,11 @@ use Rattle.console.specs.declared.gather.Gathering.{Gathering}
 use Rattle.console.specs.declared.feed.Fed.{Fed}
 use Rattle.console.specs.declared.judge.By.{By}
 use Rattle.console.specs.declared.judge.By.the-variants as by
+use Rattle.console.specs.declared.judge.Ask.{Ask}
+use Rattle.console.specs.declared.judge.Ask.the-variants as ask
 use Rattle.console.specs.Replies.{searchVerdict, searchList, answerOf, answerTo, lineReply}
-use Rattle.console.specs.Judged.{onVerdict, byOf, verdictBy, listBy, answerBy}
+use Rattle.console.specs.MissLines.{missAnswer}
+use Rattle.console.specs.Judged.{onVerdict, byOf, verdictBy, listBy, answerBy, answerAsked}
 use Rattle.console.specs.Feeding.{IsFed}
 
 module _ (rs : List ℕ) {t : Bool} where
@@ -43,18 +46,32 @@ module _ (rs nodes pool : List ℕ) where
   judged-answer true h = refl
   judged-answer false h = by-verdict h (listVerdict rs) refl
 
+  module _ {a : Ask} (h : List ℕ) where
+    -- which rules match is answered by what answers
+    pub asked-matches : {b : By} → a ≡ ask.Matches b → answerBy b rs nodes pool h ≡ answerAsked a rs nodes pool h
+    unfolding answerAsked
+    asked-matches e = rw e
+
+    -- why a rule misses, by that rule
+    pub asked-misses : {n : ℕ} → a ≡ ask.Misses n → missAnswer rs n h ≡ answerAsked a rs nodes pool h
+    unfolding answerAsked
+    asked-misses e = rw e
+
   module _ {b : By} (t : Bool) (e : b ≡ byOf t rs) where
-    same-answers : answerBy b rs nodes pool ≡ answerTo t rs nodes pool
+    same-answers : answerAsked (ask.Matches b) rs nodes pool ≡ answerTo t rs nodes pool
+    unfolding answerAsked
     same-answers = ap (λ (x : By). answerBy x rs nodes pool) e ∙ fun-ext (judged-answer t)
 
     -- a line gets the same reply as if the list were judged for it
     pub judged-reply :
-        (k : ℕ) (l : List ℕ) → lineReply (answerBy b rs nodes pool) k l ≡ lineReply (answerTo t rs nodes pool) k l
+        (k : ℕ) (l : List ℕ) →
+        lineReply (answerAsked (ask.Matches b) rs nodes pool) k l ≡ lineReply (answerTo t rs nodes pool) k l
     judged-reply k l = ap (λ (f : List ℕ → List ℕ). lineReply f k l) same-answers
 
     -- and a piece of input gets the same replies as if the list were judged for each line
     pub judged-fed :
         {g : Gathering} {bs before : List ℕ} {r : Fed} {new : List ℕ} →
-        IsFed (answerBy b rs nodes pool) g bs before r new → IsFed (answerTo t rs nodes pool) g bs before r new
+        IsFed (answerAsked (ask.Matches b) rs nodes pool) g bs before r new →
+        IsFed (answerTo t rs nodes pool) g bs before r new
     judged-fed {g} {bs} {before} {r} {new} p =
         subst (λ (f : List ℕ → List ℕ). IsFed f g bs before r new) same-answers p

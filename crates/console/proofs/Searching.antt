@@ -1,4 +1,5 @@
--- What the search answers, by the list or by the tree, and the line that is made of it.
+-- What the search answers, by the list or by the tree, and the line that is made of it; and the line that says why a
+-- rule misses.
 use Prim.Native.Nat.{ℕ, _≤_}
 use native.Mathlib.Omega.{arith}
 use mathlib.Core.Path.{_≡_, refl, ap, _∙_}
@@ -16,6 +17,11 @@ use Rattle.rules.specs.declared.line.Listed.{Listed}
 use Rattle.rules.specs.declared.line.Listed.the-variants as listed
 use Rattle.rules.specs.LineAll.{Lists}
 use Rattle.rules.specs.Scan.{ScanAllSearched}
+use Rattle.rules.specs.declared.miss.Missed.{Missed}
+use Rattle.rules.specs.declared.miss.Missed.the-variants as missed
+use Rattle.rules.specs.Matching.{firstMiss}
+use Rattle.rules.specs.RuleMisses.{missVerdict, RuleCompared}
+use Rattle.rules.specs.RuleMisses as miss
 use Rattle.rules.specs.LineAll as line
 use Rattle.trees.specs.declared.search.TreeListed.{TreeListed}
 use Rattle.trees.specs.declared.search.TreeListed.the-variants as treed
@@ -26,6 +32,7 @@ use Rattle.console.specs.Lines.{refusedLine, hitLine}
 use Rattle.console.specs.declared.judge.By.{By}
 use Rattle.console.specs.declared.judge.By.the-variants as by
 use Rattle.console.specs.Replies.{answerOf}
+use Rattle.console.specs.MissLines.{missLine, lineOr, missAnswer}
 use Rattle.console.specs.Judged.{verdictBy, listBy}
 
 -- ---- by the list or by the tree
@@ -95,3 +102,20 @@ module _ {v : Verdict} {ms before after : List ℕ} {r : Listed} (p : Lists v ms
     pub found-hit : hitLine (take n after) ≡ answerOf v ms
     unfolding answerOf
     found-hit = rw (found-fine .0) (ap hitLine (ap (take n) found-words ∙ written-front ms before n found-count))
+
+-- ---- why a rule misses
+
+module _ (rs h : List ℕ) (n : ℕ) {r : Missed} (p : RuleCompared rs h n r) where
+  -- a refusal is answered as such
+  pub miss-refused : {why : Refusal} → r ≡ missed.Refused why → refusedLine why ≡ missAnswer rs n h
+  unfolding missAnswer lineOr
+  miss-refused {why} f =
+      let e : missVerdict rs h n ≡ verdict.Refused why = refused-by p (ap miss.paper f) in rw e
+
+  -- else the field is
+  pub miss-found : {f : ℕ} → r ≡ missed.At f → missLine rs n f ≡ missAnswer rs n h
+  unfolding missAnswer lineOr
+  miss-found {f} e =
+      let v = fine-by p (ap miss.paper e) in
+      let field : f ≡ firstMiss rs h n = (let q = v .1 in cc) in
+      rw (v .0, field)

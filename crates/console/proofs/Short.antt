@@ -13,7 +13,7 @@ use Rattle.facts.proofs.Steps.{length-up}
 use Rattle.facts.proofs.Filling.{keep-at-most}
 use Rattle.facts.proofs.Under.{all-under-iff-at, all-under-iff-has}
 use Rattle.refusals.specs.declared.Refusal.{Refusal}
-use Rattle.refusals.specs.declared.Refusal.the-variants.{HeaderWrong}
+use Rattle.refusals.specs.declared.Refusal.the-variants.{RuleNotGood, HeaderWrong}
 use Rattle.refusals.specs.declared.Verdict.{Verdict}
 use Rattle.refusals.specs.declared.Verdict.the-variants.{Fine, Refused}
 use Rattle.refusals.specs.Order.{refuseUnless}
@@ -21,10 +21,11 @@ use Rattle.refusals.proofs.Order.{then-fine, then-refused, refused-not-fine, ro
 use Rattle.refusals.proofs.Turns.{lowest-of-turns}
 use Rattle.fields.specs.Words.{fieldCount}
 use Rattle.fields.specs.Headers.{fieldVerdict, headerVerdict}
-use Rattle.rules.specs.Words.{mostRules, ruleCount}
+use Rattle.rules.specs.Words.{mostRules, ruleCount, ruleThere}
 use Rattle.rules.specs.Good.{listVerdict}
-use Rattle.rules.specs.Matching.{matches, matching}
+use Rattle.rules.specs.Matching.{firstMiss, matches, matching}
 use Rattle.rules.specs.LineAll.{allVerdict}
+use Rattle.rules.specs.RuleMisses.{thereVerdict, missVerdict}
 use Rattle.rules.proofs.Lists.{good-of-fine}
 use Rattle.rules.proofs.Listing.{listed-iff-matches}
 use Rattle.text.specs.Words.{newline, tab}
@@ -38,9 +39,10 @@ use Rattle.console.specs.declared.gather.Gathering.{Gathering}
 use Rattle.console.specs.Heads.{mostBytes, headIn}
 use Rattle.console.specs.Lines.{refusedLine, hitLine, mostReply}
 use Rattle.console.specs.Replies.{searchVerdict, searchList, answerOf, answerTo, onHead, lineReply}
+use Rattle.console.specs.MissLines.{lineOr, missAnswer}
 use Rattle.console.specs.Gathered.{replyAt, said}
 use Rattle.console.specs.Feeding.{takenOf}
-use Rattle.console.proofs.Saying.{refused-few}
+use Rattle.console.proofs.Saying.{refused-few, miss-few}
 
 -- ---- the line of a hit
 
@@ -106,6 +108,28 @@ module _ (rs nodes pool : List ℕ) (fine : listVerdict rs ≡ Fine) where
       go (Refused why) k =
           let all : allVerdict rs h mostRules ≡ Refused why = then-fine _ fine ∙ then-refused _ k in
           rw all (header-short h k)
+
+-- why a rule of a good list misses a header
+pub miss-short :
+    (rs : List ℕ) (n : ℕ) (h : List ℕ) → listVerdict rs ≡ Fine → EachUnder (2 ^ 32) rs → n < 2 ^ 64 →
+    length (missAnswer rs n h) ≤ mostReply
+unfolding missAnswer missVerdict lineOr thereVerdict refuseUnless
+miss-short rs n h fine below small = go (headerVerdict h) refl
+  where
+    there :
+        headerVerdict h ≡ Fine → (t : Bool) → ruleThere rs n ≡ t → length (missAnswer rs n h) ≤ mostReply
+    there k true e =
+        let all : missVerdict rs h n ≡ Fine = then-fine _ fine ∙ then-fine _ k ∙ rw e in
+        rw all (omega (arith, miss-few rs n (firstMiss rs h n) below))
+    there k false e =
+        let all : missVerdict rs h n ≡ Refused (RuleNotGood n) = then-fine _ fine ∙ then-fine _ k ∙ rw e in
+        rw all (omega (arith, refused-few (RuleNotGood n) (omega arith) small (omega arith)))
+
+    go : (v : Verdict) → headerVerdict h ≡ v → length (missAnswer rs n h) ≤ mostReply
+    go Fine k = there k (ruleThere rs n) refl
+    go (Refused why) k =
+        let all : missVerdict rs h n ≡ Refused why = then-fine _ fine ∙ then-refused _ k in
+        rw all (header-short h k)
 
 module _ (answer : List ℕ → List ℕ) (short : (h : List ℕ) → length (answer h) ≤ mostReply) where
   wrong-few : (k : ℕ) → length (refusedLine (wrongAt k)) ≤ mostReply

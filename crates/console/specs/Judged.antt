@@ -1,9 +1,11 @@
--- What answers headers, where the list is judged once for many of them. Definitions only.
+-- What is asked of headers, and what answers, where the list is judged once for many of them. Definitions only.
 --   byOf t rs           the tree if t is true, which says that it was accepted; else the list rs, or its refusal
 --   verdictBy by .. h room    what the search for all matches refuses: a good list is scanned, and a list that is not
 --                       good is refused, whatever the header
 --   listBy by .. h      the numbers that it finds; none by a list that is refused
 --   answerBy by .. h    the line that answers header h
+--   answerAsked ask ..  what answers what is asked: which rules match a header, by what answers; or why one rule misses
+--                       it
 use Prim.Native.Nat.{ℕ}
 use mathlib.Core.Bool.{Bool, true, false}
 use mathlib.Core.List.{List, []}
@@ -16,7 +18,10 @@ use Rattle.trees.specs.Search.{treeList}
 use Rattle.trees.specs.TreeAll.{treeAllVerdict}
 use Rattle.console.specs.declared.judge.By.{By}
 use Rattle.console.specs.declared.judge.By.the-variants as by
+use Rattle.console.specs.declared.judge.Ask.{Ask}
+use Rattle.console.specs.declared.judge.Ask.the-variants as ask
 use Rattle.console.specs.Replies.{answerOf}
+use Rattle.console.specs.MissLines.{missAnswer}
 
 abbrev pub onVerdict : Verdict → By
 onVerdict verdict.Fine = by.List
@@ -38,3 +43,7 @@ listBy (by.Refused why) rs nodes pool h = []
 
 unfoldable pub answerBy : By → List ℕ → List ℕ → List ℕ → List ℕ → List ℕ
 answerBy b rs nodes pool h = answerOf (verdictBy b rs nodes pool h mostRules) (listBy b rs nodes pool h)
+
+unfoldable pub answerAsked : Ask → List ℕ → List ℕ → List ℕ → List ℕ → List ℕ
+answerAsked (ask.Matches b) rs nodes pool = answerBy b rs nodes pool
+answerAsked (ask.Misses n) rs nodes pool = missAnswer rs n

@@ -2,6 +2,7 @@
 pub mod Heads
 pub mod Lines
 pub mod Replies
+pub mod MissLines
 pub mod Judged
 pub mod Gathered
 pub mod LineEnds

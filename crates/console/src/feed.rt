@@ -1,7 +1,7 @@
 // A piece of input, line by line: each newline is answered.
 use crate::gather::Gathering;
 use crate::head::MOST_BYTES;
-use crate::judge::By;
+use crate::judge::Ask;
 use crate::judge::by_of;
 use crate::reply::reply_by;
 use crate::say::refused_line;
@@ -15,7 +15,8 @@ ghost use mathlib.Core.Path.{_≡_};
 ghost use lib.ListN.{length};
 ghost use Rattle.text.specs.Said.{Said};
 ghost use Rattle.console.specs.Replies.{answerTo};
-ghost use Rattle.console.specs.Judged.{answerBy};
+ghost use Rattle.console.specs.MissLines.{missAnswer};
+ghost use Rattle.console.specs.Judged.{answerAsked};
 ghost use Rattle.console.specs.Gathered.{gathering, replyAt, lastReply};
 ghost use Rattle.console.specs.LineEnds.{lineEnd};
 ghost use Rattle.console.specs.Feeding.{IsFed};
@@ -42,21 +43,31 @@ pub fn feed(
         (now (piece .entry)) (now (out .entry)) r (now (out .exit)) ⌝ }
     ensures bounded { λ r. ⌜ (r .taken ≤ length (now (piece .entry))) × (r .filled ≤ length (now (out .exit))) ⌝ }
 {
-    let by = by_of(rules, accepted);
-    feed_by(rules, nodes, pool, by, from, piece, out)
+    let ask = Ask::Matches(by_of(rules, accepted));
+    feed_by(rules, nodes, pool, ask, from, piece, out)
 }
 
-// The same, once it is known what answers headers.
+// The same where the lines ask why rule `rule` misses their headers.
+pub fn feed_why(rules: &[u32], rule: usize, from: Gathering, piece: &[u8], out: &mut [u8]) -> Fed
+    ensures { λ r. ⌜ IsFed (missAnswer (now (rules .entry)) rule) from (now (piece .entry)) (now (out .entry)) r
+        (now (out .exit)) ⌝ }
+    ensures bounded { λ r. ⌜ (r .taken ≤ length (now (piece .entry))) × (r .filled ≤ length (now (out .exit))) ⌝ }
+{
+    let ask = Ask::Misses { rule };
+    feed_by(rules, &rules[..0], &rules[..0], ask, from, piece, out)
+}
+
+// The same, once it is known what is asked, and what answers.
 fn feed_by(
     rules: &[u32],
     nodes: &[u32],
     pool: &[u32],
-    by: By,
+    ask: Ask,
     from: Gathering,
     piece: &[u8],
     out: &mut [u8],
 ) -> Fed
-    ensures { λ r. ⌜ IsFed (answerBy by (now (rules .entry)) (now (nodes .entry)) (now (pool .entry))) from
+    ensures { λ r. ⌜ IsFed (answerAsked ask (now (rules .entry)) (now (nodes .entry)) (now (pool .entry))) from
         (now (piece .entry)) (now (out .entry)) r (now (out .exit)) ⌝ }
     ensures bounded { λ r. ⌜ (r .taken ≤ length (now (piece .entry))) × (r .filled ≤ length (now (out .exit))) ⌝ }
 {
@@ -73,7 +84,7 @@ fn feed_by(
                 gathering: line,
             };
         }
-        match reply_at(rules, nodes, pool, by, line, &mut out[filled..]) {
+        match reply_at(rules, nodes, pool, ask, line, &mut out[filled..]) {
             Written::Refused(_) => {
                 return Fed {
                     taken: end,
@@ -111,16 +122,16 @@ fn reply_at(
     rules: &[u32],
     nodes: &[u32],
     pool: &[u32],
-    by: By,
+    ask: Ask,
     line: Gathering,
     out: &mut [u8],
 ) -> Written
     ensures { λ r. ⌜ Said
-        (replyAt (answerBy by (now (rules .entry)) (now (nodes .entry)) (now (pool .entry))) line)
+        (replyAt (answerAsked ask (now (rules .entry)) (now (nodes .entry)) (now (pool .entry))) line)
         (now (out .entry)) r (now (out .exit)) ⌝ }
 {
     let held = line.held;
-    whole_line(rules, nodes, pool, by, held, line.count, line.lines, out)
+    whole_line(rules, nodes, pool, ask, held, line.count, line.lines, out)
 }
 
 // The same, from the parts of the line: its bytes are the first `count` that are held, unless it was too long.
@@ -128,20 +139,20 @@ fn whole_line(
     rules: &[u32],
     nodes: &[u32],
     pool: &[u32],
-    by: By,
+    ask: Ask,
     held: [u8; MOST_BYTES],
     count: usize,
     lines: usize,
     out: &mut [u8],
 ) -> Written
     ensures { λ r. ⌜ Said
-        (replyAt (answerBy by (now (rules .entry)) (now (nodes .entry)) (now (pool .entry)))
+        (replyAt (answerAsked ask (now (rules .entry)) (now (nodes .entry)) (now (pool .entry)))
         (gathering held count lines)) (now (out .entry)) r (now (out .exit)) ⌝ }
 {
     if MOST_BYTES < count {
         return refused_line(wrong(lines), out);
     }
-    reply_by(rules, nodes, pool, by, lines, &held[..count], out)
+    reply_by(rules, nodes, pool, ask, lines, &held[..count], out)
 }
 
 // The reply at the end of input: nothing, or 10 to a last part without newline, of any length.

@@ -1,4 +1,5 @@
-// What answers headers: the tree or the list. The list is judged here, once for all lines that a call is given.
+// What is asked of headers, and what answers: the tree or the list. The list is judged here, once for all lines that a
+// call is given.
 use refusals::Refusal;
 use refusals::Verdict;
 use rules::check::list_verdict;
@@ -10,6 +11,12 @@ pub(crate) enum By {
     Tree,
     List,
     Refused(Refusal),
+}
+
+// Which rules match a header, by what answers; or why one rule misses it.
+pub(crate) enum Ask {
+    Matches(By),
+    Misses { rule: usize },
 }
 
 // The tree if the tree check accepted it. Else the list is judged.

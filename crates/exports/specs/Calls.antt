@@ -5,6 +5,7 @@ use Rattle.rules.specs.RuleCheck as rule-check
 use Rattle.rules.specs.LineAll as line-all
 use Rattle.rules.specs.LineFirst as line-first
 use Rattle.rules.specs.Scan as scan
+use Rattle.rules.specs.RuleMisses as rule-misses
 use Rattle.trees.specs.TreeAll as tree-all
 use Rattle.trees.specs.TreeFirst as tree-first
 use Rattle.tree_check.specs.TreeCheck as tree-check
@@ -36,6 +37,9 @@ ScanAllAnswered rs h found after answer =
 
 abbrev pub ScanFirstAnswered : Words → Words → Words → Type 0
 ScanFirstAnswered rs h answer = InWords inTwoWords line-first.paper (scan.ScanFirstSearched rs h) answer
+
+abbrev pub RuleMissesAnswered : Words → Words → ℕ → Words → Type 0
+RuleMissesAnswered rs h n answer = InWords plainly rule-misses.paper (rule-misses.RuleCompared rs h n) answer
 
 abbrev pub TreeAllAnswered : Words → Words → Words → Words → Words → Words → Words → Type 0
 TreeAllAnswered rs nodes pool h found after answer =

@@ -1,15 +1,17 @@
-// The rule check, the line search and the scan as C functions.
+// The rule check, the line search, the scan and the call that says why a rule missed, as C functions.
 use crate::answer::of_refusal;
 use rules::check::Checked;
 use rules::line::First;
 use rules::line::Listed;
+use rules::miss::Missed;
 ghost use mathlib.Core.Path.{_≡_};
 ghost use Rattle.rules.specs.RuleCheck as checked;
 ghost use Rattle.rules.specs.LineAll as listed;
 ghost use Rattle.rules.specs.LineFirst as first;
+ghost use Rattle.rules.specs.RuleMisses as missed;
 ghost use Rattle.exports.specs.Answers.{plainly, inTwoWords, asEight, MatchFits};
 ghost use Rattle.exports.specs.Calls.{RuleCheckAnswered, LineAllAnswered, LineFirstAnswered};
-ghost use Rattle.exports.specs.Calls.{ScanAllAnswered, ScanFirstAnswered};
+ghost use Rattle.exports.specs.Calls.{ScanAllAnswered, ScanFirstAnswered, RuleMissesAnswered};
 
 // The value: the number of rules.
 #[no_mangle]
@@ -63,6 +65,19 @@ pub extern "C" fn wick_scan_first(rules: &[u32], header: &[u32], answer: &mut [u
     *answer = of_first(rules::line::scan_first(rules, header));
 }
 
+// The value: the lowest field of rule `number` that disagrees with the header, or 5 where the rule matches.
+#[no_mangle]
+pub extern "C" fn wick_rule_misses(
+    rules: &[u32],
+    header: &[u32],
+    number: u64,
+    answer: &mut [u64; 8],
+)
+    ensures { λ _. ⌜ RuleMissesAnswered (now (rules .entry)) (now (header .entry)) number (now (answer .exit)) ⌝ }
+{
+    *answer = of_missed(rules::miss::rule_misses(rules, header, number as usize));
+}
+
 fn of_checked(said: Checked) -> [u64; 8]
     ensures { λ r. ⌜ r ≡ asEight plainly (checked.paper said) ⌝ }
 {
@@ -89,5 +104,14 @@ fn of_first(said: First) -> [u64; 8]
         First::Refused(why) => of_refusal(why),
         First::Rule { number, action } => [0, 0, 0, number as u64 + 1, 0, 0, action as u64, 0],
         First::NoRule => [0, 0, 0, 0, 0, 0, 0, 0],
+    }
+}
+
+fn of_missed(said: Missed) -> [u64; 8]
+    ensures { λ r. ⌜ r ≡ asEight plainly (missed.paper said) ⌝ }
+{
+    match said {
+        Missed::Refused(why) => of_refusal(why),
+        Missed::At { field } => [0, 0, 0, field as u64, 0, 0, 0, 0],
     }
 }

@@ -78,6 +78,17 @@ is-lowest (suc m) i p = go (p i) refl (is-lowest m (i + 1) p)
         first k l u (below q) = r .none-before k (omega arith) u
         first k l u (above q) = absurd (omega arith)
 
+same-from :
+    (m i : ℕ) (p q : ℕ → Bool) → ((j : ℕ) → i ≤ j → j < i + m → p j ≡ q j) → lowest m i p ≡ lowest m i q
+unfolding lowest
+same-from zero i p q h = refl
+same-from (suc m) i p q h =
+    rw (h i (omega arith) (omega arith), same-from m (i + 1) p q (λ j l u. h j (omega arith) (omega arith)))
+
+-- two tests that agree below n have the same lowest
+pub lowest-same : (n : ℕ) (p q : ℕ → Bool) → ((i : ℕ) → i < n → p i ≡ q i) → lowest n 0 p ≡ lowest n 0 q
+lowest-same n p q h = same-from n 0 p q (λ j l u. h j (omega arith))
+
 -- there is a lowest below n, or the answer is n
 pub lowest-at-most : (n : ℕ) (p : ℕ → Bool) → lowest n 0 p ≤ n
 lowest-at-most n p = omega (arith, is-lowest n 0 p .to)

@@ -1,5 +1,5 @@
 -- The list of the rule file is taken: what the reader of rules says, in words instead of rules.
-use Prim.Native.Nat.{ℕ, _*_, _≤_}
+use Prim.Native.Nat.{ℕ, _*_, _^_, _≤_}
 use native.Mathlib.Omega.{arith}
 use mathlib.Core.Path.{_≡_, refl, sym, ap, subst}
 use mathlib.Core.List.{List, [], _∷_}
@@ -17,6 +17,7 @@ use Rattle.refusals.proofs.Promises.{writes-fine, left-found, left-written}
 use Rattle.rules.specs.Words.{ruleWords, ruleCount}
 use Rattle.rules.specs.Good.{listVerdict}
 use Rattle.rules.proofs.Lists.{good-of-fine}
+use Rattle.text.specs.Line.{EachUnder}
 use Rattle.text.specs.Text.{Reading, good, refused}
 use Rattle.rule_file.specs.declared.kind.Kind.{Kind}
 use Rattle.rule_file.specs.declared.read.Read.{Read}
@@ -25,7 +26,7 @@ use Rattle.rule_file.specs.Kinds.{kindNumber, kindOf}
 use Rattle.rule_file.specs.RuleText.{rulesIn}
 use Rattle.rule_file.specs.Reading.{wordsIn, readVerdict, RulesRead}
 use Rattle.rule_file.specs.Reading as reader
-use Rattle.rule_file.proofs.RoundTrips.{good-of-read}
+use Rattle.rule_file.proofs.RoundTrips.{good-of-read, below-of-read}
 use Rattle.policy.specs.declared.list.Listed.{Listed}
 use Rattle.policy.specs.declared.list.Listed.the-variants.{Refused, Words}
 use Rattle.policy.specs.Files.{listIn, ListOfFile}
@@ -116,3 +117,9 @@ pub list-good : (f : Option (List ℕ)) {rs : List ℕ} → listIn f ≡ good rs
 unfolding listIn
 list-good none e = let z : _≡_ {A = ℕ} 0 1 = cc in absurd (omega arith)
 list-good (some s) {rs} e = good-of-read s rs e
+
+-- and its words are of 32 bits
+pub list-below : (f : Option (List ℕ)) {rs : List ℕ} → listIn f ≡ good rs → EachUnder (2 ^ 32) rs
+unfolding listIn
+list-below none e = let z : _≡_ {A = ℕ} 0 1 = cc in absurd (omega arith)
+list-below (some s) {rs} e = below-of-read s rs e

@@ -21,3 +21,4 @@ pub mod ReadLines
 pub mod Passes
 pub mod ReadAnswers
 pub mod Calls
+pub mod Pieces

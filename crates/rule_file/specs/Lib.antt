@@ -6,3 +6,4 @@ pub mod RuleText
 pub mod Reading
 pub mod ReadSteps
 pub mod Writing
+pub mod Pieces

@@ -65,7 +65,7 @@ pub(crate) fn store_rule(rules: &mut [u32], i: usize, rule: [u32; RULE_WORDS])
 
 // The words of rule `i` of a list.
 pub(crate) fn rule_at(rules: &[u32], i: usize) -> [u32; RULE_WORDS]
-    requires { ⌜ (i < mostRules) × (i * ruleWords + ruleWords ≤ length (now rules)) ⌝ }
+    requires { ⌜ i * ruleWords + ruleWords ≤ length (now rules) ⌝ }
     ensures { λ r. ⌜ r ≡ ruleAt (now (rules .entry)) i ⌝ }
 {
     let mut rule = [0u32; RULE_WORDS];

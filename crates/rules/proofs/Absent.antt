@@ -8,16 +8,15 @@ use mathlib.Core.Logic.{_↔_, _⊎_, inl, inr}
 use mathlib.Core.List.{List}
 use lib.ListN.{length, getD, set}
 use lib.Seq.{getD-set-same, getD-set-other}
-use Rattle.facts.proofs.Below.{all-below-at, all-below-of}
 use Rattle.facts.proofs.Cases.{same-or-not}
 use Rattle.fields.specs.Words.{largestPort, absentPort, fieldCount}
 use Rattle.fields.specs.Ports.{wholePorts, portsMatch}
-use Rattle.fields.specs.Fields.{fieldMatches}
 use Rattle.fields.proofs.Ranges.{holds-iff-between}
 use Rattle.fields.proofs.Ports.{absent-matches, present-matches, whole-iff}
 use Rattle.fields.specs.declared.field.Field.the-variants.{Ports}
 use Rattle.rules.specs.Words.{formOf, fieldOf}
-use Rattle.rules.specs.Matching.{matches}
+use Rattle.rules.specs.Matching.{agrees, matches}
+use Rattle.rules.proofs.Misses.{matches-iff-agree}
 
 module _
     (rs h : List ℕ) (r f low high p : ℕ) (l : f < fieldCount) (given : fieldOf (formOf f) rs r ≡ Ports low high)
@@ -28,17 +27,19 @@ module _
 
   -- a header's value matches the rule in this field
   abbrev At : List ℕ → ℕ → Type 0
-  At head g = fieldMatches (fieldOf (formOf g) rs r) (getD head g 0) ≡ true
+  At head g = agrees rs head r g ≡ true
 
   abbrev Whole : Type 0
   Whole = (low ≡ 0) × (high ≡ largestPort)
 
   -- in that field the absent port matches exactly the whole range
   absent-iff-whole : At h f ↔ Whole
+  unfolding agrees
   absent-iff-whole = rw (given, absent-matches low high absent) (whole-iff low high)
 
   -- and a whole range matches the port
   port-matches : Whole → At sent f
+  unfolding agrees
   port-matches w =
       rw (given, getD-set-same h f p 0 (omega (arith, words)), present-matches low high {x = p} (λ e. omega arith))
       (holds-iff-between low high p .1 (omega (arith, w .0), omega (arith, w .1)))
@@ -50,13 +51,15 @@ module _
   -- a header without a port matches exactly the rules whose range there is whole and that match it with the port
   pub absent-iff :
       (matches rs h r ≡ true) ↔ ((low ≡ 0) × (high ≡ largestPort) × (matches rs (set h f p) r ≡ true))
-  unfolding matches
+  unfolding agrees
   absent-iff = (
     λ e.
-        let w = absent-iff-whole .0 (all-below-at fieldCount _ e f l) in
-        (w .0, w .1, all-below-of fieldCount _ (λ g k. to w g (all-below-at fieldCount _ e g k) (same-or-not g f))),
+        let a = matches-iff-agree rs h r .0 e in
+        let w = absent-iff-whole .0 (a f l) in
+        (w .0, w .1, matches-iff-agree rs sent r .1 (λ g k. to w g (a g k) (same-or-not g f))),
     λ t.
-        all-below-of fieldCount _ (λ g k. of (t .0, t .1) g (all-below-at fieldCount _ (t .2) g k) (same-or-not g f)),
+        let a = matches-iff-agree rs sent r .0 (t .2) in
+        matches-iff-agree rs h r .1 (λ g k. of (t .0, t .1) g (a g k) (same-or-not g f)),
   )
     where
       to : Whole → (g : ℕ) → At h g → (g ≡ f) ⊎ (g ≡ f → ⊥) → At sent g

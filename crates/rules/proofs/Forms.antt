@@ -1,23 +1,26 @@
 -- The forms of the fields: each names words of a rule that come before its action. So rules with the same words match
--- alike, whatever their actions, and are alike good if their actions are the same too.
-use Prim.Native.Nat.{ℕ, _<_}
+-- alike, whatever their actions, also where those of one are taken out of its list, and are alike good if their actions
+-- are the same too.
+use Prim.Native.Nat.{ℕ, _+_, _-_, _*_, _<_}
 use native.Mathlib.Omega.{arith}
-use mathlib.Core.Bool.{Bool, true, _&&_}
-use mathlib.Core.Path.{_≡_, refl, ap}
+use mathlib.Core.Bool.{Bool, true, not, _&&_}
+use mathlib.Core.Path.{_≡_, refl, ap, _∙_}
 use mathlib.Core.List.{List}
-use lib.ListN.{getD}
-use lib.Dec.{ltb}
+use lib.ListN.{getD, take, drop, length-drop}
+use lib.Seq.{getD-take, getD-drop, length-take-le}
+use lib.Dec.{ltb, eqb}
 use borrow.Author.Tests.{ltb-true}
 use Rattle.facts.specs.Below.{allBelow}
 use Rattle.facts.proofs.Bools.{both}
 use Rattle.facts.proofs.Below.{all-below-at, all-below-same}
+use Rattle.facts.proofs.Lowest.{lowest-same}
 use Rattle.fields.specs.Words.{fieldCount}
 use Rattle.fields.specs.Fields.{fieldGood, fieldMatches}
 use Rattle.rules.specs.declared.words.Form.{Form}
 use Rattle.rules.specs.declared.words.Form.the-variants.{Prefix, Range, Ports}
-use Rattle.rules.specs.Words.{ruleWords, matchWords, wordOf, formOf, fieldOf}
+use Rattle.rules.specs.Words.{ruleWords, matchWords, ruleCount, wordOf, formOf, fieldOf}
 use Rattle.rules.specs.Good.{fieldsGood, goodTo}
-use Rattle.rules.specs.Matching.{matches}
+use Rattle.rules.specs.Matching.{agrees, firstMiss, matches}
 
 -- the words that a form names come before a rule's action
 abbrev inRule : Form → Bool
@@ -67,11 +70,39 @@ module _ (a b : List ℕ) (i j : ℕ) (h : (k : ℕ) → k < matchWords → word
   unfolding fieldsGood
   fields-same = all-below-same fieldCount _ _ (λ f l. ap fieldGood (same-field f l))
 
-  -- they match the same headers
+  -- the same field of theirs is the first to disagree with a header
+  pub misses-same : (head : List ℕ) → firstMiss a head i ≡ firstMiss b head j
+  unfolding firstMiss agrees
+  misses-same head =
+      lowest-same fieldCount _ _ (λ f l. ap (λ x. not (fieldMatches x (getD head f 0))) (same-field f l))
+
+  -- so they match the same headers
   pub matches-same : (head : List ℕ) → matches a head i ≡ matches b head j
   unfolding matches
-  matches-same head =
-      all-below-same fieldCount _ _ (λ f l. ap (λ x. fieldMatches x (getD head f 0)) (same-field f l))
+  matches-same head = ap (λ f. eqb f fieldCount) (misses-same head)
+
+-- the words of one rule, taken out of its list from where they start to where they end
+module _ (rs : List ℕ) (r : ℕ) (l : r < ruleCount rs) where
+  abbrev size : ℕ
+  size = r * ruleWords + ruleWords - r * ruleWords
+
+  abbrev own : List ℕ
+  own = take size (drop (r * ruleWords) rs)
+
+  -- there is a rule among them
+  pub own-words-there : 0 < ruleCount own
+  own-words-there =
+      let left = length-drop (r * ruleWords) rs in
+      omega (arith, l, length-take-le size (drop (r * ruleWords) rs) (omega (arith, l, left)))
+
+  -- the same field of it is the first to disagree with a header
+  pub own-words-miss : (head : List ℕ) → firstMiss own head 0 ≡ firstMiss rs head r
+  own-words-miss head = misses-same own rs 0 r word head
+    where
+      word : (k : ℕ) → k < matchWords → wordOf own 0 k ≡ wordOf rs r k
+      word k u =
+          let e : 0 * ruleWords + k ≡ k = omega arith in
+          rw e (getD-take size (drop (r * ruleWords) rs) k 0 (omega arith) ∙ getD-drop (r * ruleWords) rs k 0)
 
 -- two rules with the same words, word by word, are alike good
 pub good-same :

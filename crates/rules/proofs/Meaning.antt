@@ -6,17 +6,18 @@ use mathlib.Core.Logic.{_↔_}
 use mathlib.Core.List.{List, []}
 use lib.ListN.{getD}
 use Rattle.facts.specs.Below.{allBelow}
-use Rattle.facts.proofs.Below.{all-below-at, all-below-of, all-below-same}
+use Rattle.facts.proofs.Below.{all-below-at, all-below-same}
 use Rattle.facts.proofs.Tables.{getD-map-in}
 use Rattle.fields.specs.Words.{fieldCount}
-use Rattle.fields.specs.Fields.{fieldGood, fieldMatches, fieldEnds, fieldMeets}
+use Rattle.fields.specs.Fields.{fieldGood, fieldEnds, fieldMeets}
 use Rattle.fields.specs.Boxes.{lowOf, highOf, Inside, Full, meets}
 use Rattle.fields.proofs.Fields.{field-iff-between, field-not-empty}
 use Rattle.rules.specs.declared.words.Form.the-variants.{Prefix}
 use Rattle.rules.specs.Words.{largestAction, forms, formOf, fieldOf}
 use Rattle.rules.specs.Good.{fieldsGood, good}
 use Rattle.rules.proofs.Actions.{good-to-iff}
-use Rattle.rules.specs.Matching.{matches, ruleBox}
+use Rattle.rules.specs.Matching.{agrees, matches, ruleBox}
+use Rattle.rules.proofs.Misses.{matches-iff-agree}
 
 module _ (rs : List ℕ) (r : ℕ) where
   -- the box in field f is that field's ends
@@ -39,16 +40,16 @@ module _ (rs : List ℕ) (r : ℕ) where
 
     field-iff :
         (h : List ℕ) (f : ℕ) → f < fieldCount →
-        (fieldMatches (fieldOf (formOf f) rs r) (getD h f 0) ≡ true) ↔
+        (agrees rs h r f ≡ true) ↔
         ((lowOf (ruleBox rs r) f ≤ getD h f 0) × (getD h f 0 ≤ highOf (ruleBox rs r) f))
+    unfolding agrees
     field-iff h f l = rw (box-ends f l) (field-iff-between (fieldOf (formOf f) rs r) (field-good f l) (getD h f 0))
 
     -- a good rule matches a header exactly where the header lies in its box
     pub matches-iff-inside : (h : List ℕ) → (matches rs h r ≡ true) ↔ Inside fieldCount (ruleBox rs r) h
-    unfolding matches
     matches-iff-inside h = (
-      λ e f l. field-iff h f l .0 (all-below-at fieldCount _ e f l),
-      λ i. all-below-of fieldCount _ (λ f l. field-iff h f l .1 (i f l)),
+      λ e f l. field-iff h f l .0 (matches-iff-agree rs h r .0 e f l),
+      λ i. matches-iff-agree rs h r .1 (λ f l. field-iff h f l .1 (i f l)),
     )
 
     -- the box of a good rule is not empty

@@ -8,9 +8,11 @@ use Rattle.refusals.specs.Promises.{Apart}
 use Rattle.rules.specs.declared.check.Checked.the-variants as checked
 use Rattle.rules.specs.declared.line.Listed.the-variants as listed
 use Rattle.rules.specs.declared.line.First.the-variants as first
+use Rattle.rules.specs.declared.miss.Missed.the-variants as missed
 use Rattle.rules.specs.RuleCheck as check
 use Rattle.rules.specs.LineAll as all
 use Rattle.rules.specs.LineFirst as one
+use Rattle.rules.specs.RuleMisses as miss
 
 -- answers of the rule check
 pub checked-apart : Apart check.paper
@@ -37,3 +39,10 @@ first-apart (first.Rule m u) first.NoRule e = let z : _≡_ {A = ℕ} 0 1 = cc i
 first-apart first.NoRule (first.Refused b) e = refusal-not-success (sym e)
 first-apart first.NoRule (first.Rule n v) e = let z : _≡_ {A = ℕ} 0 1 = cc in absurd (omega arith)
 first-apart first.NoRule first.NoRule e = refl
+
+-- answers of the call that says why a rule missed
+pub missed-apart : Apart miss.paper
+missed-apart (missed.Refused a) (missed.Refused b) e = ap missed.Refused (on-paper-unique a b e)
+missed-apart (missed.Refused a) (missed.At f) e = refusal-not-success e
+missed-apart (missed.At f) (missed.Refused b) e = refusal-not-success (sym e)
+missed-apart (missed.At f) (missed.At g) e = let q : f ≡ g = cc in ap missed.At q

@@ -1,4 +1,5 @@
--- Lists of rules, twins among them, the ends of their fields, and the promises of the rule check and the line search.
+-- Lists of rules, twins among them, the ends of their fields, and the promises of the rule check, of the line search and
+-- of the call that says why a rule missed.
 pub mod Words
 pub mod Twins
 pub mod Good
@@ -11,3 +12,4 @@ pub mod LineAll
 pub mod LineFirst
 pub mod Scan
 pub mod ScanSteps
+pub mod RuleMisses

@@ -6,6 +6,9 @@ ghost use lib.ListN.{length};
 ghost use Rattle.system.specs.Reads.{gotOf, Gets};
 ghost use Rattle.system.specs.Files.{Fits, noReads, nextReads, lastReads, moreReads, fileOf, Loaded};
 
+// The file with the list of rules, in the folder where a program is started.
+pub const RULES_FILE: [u8; 9] = *b"rules.txt";
+
 // What one read gave. A read that fails is never taken for the end.
 pub enum Got {
     Failed,

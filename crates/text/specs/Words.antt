@@ -1,7 +1,9 @@
 -- The fixed words and the separators of lines, as bytes. Definitions only.
 --   newline, tab                      the byte that ends a line, and the one that parts its fields
---   rulesWord .. refusedWord          `rules`, `acl`, `rule`, `tree`, `part`, `cut`, `leaf`, `end`, `head`, `hit`,
---                                     `refused`
+--   rulesWord .. missesWord           `rules`, `acl`, `rule`, `tree`, `part`, `cut`, `leaf`, `end`, `head`, `hit`,
+--                                     `refused`, `match`, `misses`
+--   sourceName .. protocolName        the names of the five fields: `source`, `destination`, `source port`,
+--                                     `destination port`, `protocol`
 --   oneTab .. fourTabs                the separators of a line of one to four numbers
 --   ruleMarks                         those of a rule: its number; two addresses with their lengths; six range ends
 --   aclMarks                          those of a rule with its action behind them
@@ -48,6 +50,27 @@ hitWord = 104 ∷ 105 ∷ 116 ∷ []
 
 abbrev pub refusedWord : List ℕ
 refusedWord = 114 ∷ 101 ∷ 102 ∷ 117 ∷ 115 ∷ 101 ∷ 100 ∷ []
+
+abbrev pub matchWord : List ℕ
+matchWord = 109 ∷ 97 ∷ 116 ∷ 99 ∷ 104 ∷ []
+
+abbrev pub missesWord : List ℕ
+missesWord = 109 ∷ 105 ∷ 115 ∷ 115 ∷ 101 ∷ 115 ∷ []
+
+abbrev pub sourceName : List ℕ
+sourceName = 115 ∷ 111 ∷ 117 ∷ 114 ∷ 99 ∷ 101 ∷ []
+
+abbrev pub destinationName : List ℕ
+destinationName = 100 ∷ 101 ∷ 115 ∷ 116 ∷ 105 ∷ 110 ∷ 97 ∷ 116 ∷ 105 ∷ 111 ∷ 110 ∷ []
+
+abbrev pub sourcePortName : List ℕ
+sourcePortName = 115 ∷ 111 ∷ 117 ∷ 114 ∷ 99 ∷ 101 ∷ 32 ∷ 112 ∷ 111 ∷ 114 ∷ 116 ∷ []
+
+abbrev pub destinationPortName : List ℕ
+destinationPortName = 100 ∷ 101 ∷ 115 ∷ 116 ∷ 105 ∷ 110 ∷ 97 ∷ 116 ∷ 105 ∷ 111 ∷ 110 ∷ 32 ∷ 112 ∷ 111 ∷ 114 ∷ 116 ∷ []
+
+abbrev pub protocolName : List ℕ
+protocolName = 112 ∷ 114 ∷ 111 ∷ 116 ∷ 111 ∷ 99 ∷ 111 ∷ 108 ∷ []
 
 abbrev pub oneTab : List ℕ
 oneTab = tab ∷ []

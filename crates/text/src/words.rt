@@ -22,6 +22,21 @@ pub const HIT: [u8; 3] = *b"hit";
 
 pub const REFUSED: [u8; 7] = *b"refused";
 
+pub const MATCH: [u8; 5] = *b"match";
+
+pub const MISSES: [u8; 6] = *b"misses";
+
+// The names of the five fields.
+pub const SOURCE: [u8; 6] = *b"source";
+
+pub const DESTINATION: [u8; 11] = *b"destination";
+
+pub const SOURCE_PORT: [u8; 11] = *b"source port";
+
+pub const DESTINATION_PORT: [u8; 16] = *b"destination port";
+
+pub const PROTOCOL: [u8; 8] = *b"protocol";
+
 // The byte that ends a line, and the one that parts its fields.
 pub const NEWLINE: u8 = 10;
 

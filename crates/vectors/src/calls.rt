@@ -13,6 +13,8 @@ use rules::line::line_all;
 use rules::line::line_first;
 use rules::line::scan_all;
 use rules::line::scan_first;
+use rules::miss::Missed;
+use rules::miss::rule_misses;
 use tree_check::check::TreeAnswer;
 use tree_check::check::tree_check;
 use trees::search::TreeFirst;
@@ -64,6 +66,19 @@ pub(crate) fn scan_list(example: &[u8], list: &[u32], header: &[u32]) {
     let said = scan_all(list, header, &mut out);
     say_listed(example, b"scan_all", said, out);
     say_first(example, b"scan_first", scan_first(list, header));
+}
+
+// The lowest field of a rule that disagrees, or 5 where the rule matches.
+pub(crate) fn compare_rule(example: &[u8], list: &[u32], header: &[u32], number: usize) {
+    begin(example, b"rule_misses");
+    match rule_misses(list, header, number) {
+        Missed::Refused(why) => refused(why),
+        Missed::At { field } => {
+            value(0);
+            value(field as u64);
+        }
+    }
+    end();
 }
 
 // The first number and its action, or none.

@@ -5,6 +5,7 @@
 //   worked    the worked policy: its headers, its tree, its files
 //   twins     rules with the words of an earlier one, in lists and in files
 //   actions   the worked policy with actions, in lists and in files
+//   misses    which field of a rule is the first to disagree
 //   limits    lengths 32 and 0, the largest and the absent port, 512 and 513 rules, 63 and 64 cuts
 //   policy    the words of the worked policy
 //   calls     the searches and the checks, and the line that says the answer
@@ -14,6 +15,7 @@ mod actions;
 mod calls;
 mod files;
 mod limits;
+mod misses;
 mod policy;
 mod say;
 mod twins;
@@ -34,6 +36,10 @@ fn main() {
     actions::searches();
     actions::one_rule();
     actions::rule_files();
+    misses::worked_list();
+    misses::narrow_rule();
+    misses::no_rule();
+    misses::judged_first();
     limits::length_32();
     limits::length_0();
     limits::past_length_32();

@@ -1,3 +1,2 @@
--- The laws of the program: who answers as the list does, and what a piece of input leaves.
+-- The law of the program: who answers as the list does.
 pub mod Standing
-pub mod Turning

@@ -1,4 +1,2 @@
--- What the program's own functions promise and ask for: what is handed from one function to the next, and what a piece
--- of input leaves.
+-- What the program's own functions hand to one another.
 pub mod Handed
-pub mod Turns

@@ -1,10 +1,5 @@
 // The program. It reads the policy in the folder where it is started, `rules.txt` and `tree.txt`, and answers the lines
 // of standard input on standard output. What it answers is settled in proved libraries; here bytes are moved.
-//   serve    the lines of standard input, answered
-//   out      standard output
-mod out;
-mod serve;
-
 use policy::file::MOST_FILE;
 use policy::list::Listed;
 use policy::list::take_list;
@@ -13,15 +8,17 @@ use policy::tree::take_tree;
 use refusals::Verdict;
 use rules::words::MOST_RULES;
 use rules::words::RULE_WORDS;
-use serve::serve;
+use system::load::RULES_FILE;
 use system::load::load;
 use system::out::say_verdict;
+use system::serve::serve;
 use trees::words::MOST_NODES;
 use trees::words::MOST_POOL;
 use trees::words::NODE_WORDS;
+ghost use mathlib.Core.Bool.{true, false};
+ghost use mathlib.Core.Path.{_≡_};
 ghost use Rattle.policy.specs.Files.{ListOfFile};
-
-const RULES_FILE: [u8; 9] = *b"rules.txt";
+ghost use Rattle.wickorchard.specs.Handed.{AnswersAsList};
 
 const TREE_FILE: [u8; 8] = *b"tree.txt";
 
@@ -55,5 +52,15 @@ fn answer(buffer: &mut [u8], rules: &[u32])
     let n = serving.nodes;
     let p = serving.pool;
     let told = say_verdict(refused);
-    serve(rules, &nodes[..n], &pool[..p], accepted, told);
+    answer_input(rules, &nodes[..n], &pool[..p], accepted, told);
+}
+
+// Answers standard input, by whoever answers as the list does. It does not begin where the refusal of the tree could
+// not be told, and an accepted tree has none to tell.
+fn answer_input(rules: &[u32], nodes: &[u32], pool: &[u32], accepted: bool, told: bool) -> bool
+    requires { ⌜ AnswersAsList (now rules) (now nodes) (now pool) accepted ⌝ }
+    requires { ⌜ (accepted ≡ true → told ≡ true) ⌝ }
+    ensures { λ r. ⌜ (told ≡ false → r ≡ false) ⌝ }
+{
+    serve(rules, nodes, pool, accepted, told)
 }

@@ -21,9 +21,9 @@ use wickorchard::raw::Answer;
 
 use crate::builds::{services, zones};
 use crate::loaded::{Library, Tree};
-use crate::scans::{drawn_inside, drawn_rule};
+use crate::scans::{all_matching, drawn_inside, drawn_rule, other_protocols, Kind};
 
-const TURNS: usize = 201;
+const TURNS: usize = 181;
 /// Short, so that most turns are over before the system gives the processor to another program.
 const TURN: Duration = Duration::from_millis(2);
 const HEADERS: usize = 512;
@@ -33,7 +33,8 @@ type Rule = [u32; RULE_WORDS];
 type Search<'a> = &'a mut dyn FnMut(&Library, &[u32], &[u32; 5], &mut [u32]) -> Answer;
 
 /// Loads the two builds. Times the check and the reader on lists of 512 rules, and on the first three of one; then the
-/// searches on lists of 512 and of 64 rules.
+/// searches on lists of 512 and of 64 rules; then the searches of a list alone where every rule is compared to its last
+/// field.
 pub fn time(files: [&str; 2], draw: &mut impl FnMut() -> u32) {
     let libraries = files.map(Library::load);
     println!("words of a rule: {:?}", libraries.each_ref().map(|library| library.rule_words));
@@ -54,6 +55,10 @@ pub fn time(files: [&str; 2], draw: &mut impl FnMut() -> u32) {
         time_searches(&format!("{size} services"), &services(size as u32, draw).concat(), draw, &libraries);
         time_searches(&format!("{size} zones"), &zones(size as u32, draw).concat(), draw, &libraries);
     }
+    for size in [MOST_RULES, 64] {
+        time_list_searches(size, &other_protocols(size, HEADERS, draw), &libraries);
+    }
+    time_list_searches(MOST_RULES, &all_matching(MOST_RULES, HEADERS, draw), &libraries);
 }
 
 /// Compares what the two do with a good list, and then times them.
@@ -77,8 +82,8 @@ fn time_list(name: &str, rules: &[u32], libraries: &[Library; 2]) {
     say("reading", name, reads, 1);
 }
 
-/// Compares what the two find for headers that rules of the good list match, and then times them: by the list, and by
-/// its tree where that is within the limits. The rules have action 0, so whole answers are compared.
+/// Times the searches for headers that rules of the good list match: by the list, and by its tree where that is within
+/// the limits.
 fn time_searches(name: &str, rules: &[u32], draw: &mut impl FnMut() -> u32, libraries: &[Library; 2]) {
     let headers: Vec<[u32; 5]> = (0..HEADERS)
         .map(|_| {
@@ -86,18 +91,34 @@ fn time_searches(name: &str, rules: &[u32], draw: &mut impl FnMut() -> u32, libr
             drawn_inside(&rules[at..at + RULE_WORDS], draw)
         })
         .collect();
-    let own = libraries.each_ref().map(|library| library.own(rules));
-    let [tree, other] = [0, 1].map(|which| libraries[which].build(&own[which]));
+    let [tree, other] = libraries.each_ref().map(|library| library.build(&library.own(rules)));
     assert_eq!(tree, other, "both build one tree");
-    let found = |which: usize, header| find(&libraries[which], &own[which], tree.as_ref(), header);
-    for header in &headers {
+    let first = |header| libraries[0].scan_first(&libraries[0].own(rules), header);
+    assert!(headers.iter().all(|header| first(header)[3] > 0), "a rule is found");
+    time_all(name, rules, &headers, tree.as_ref(), libraries);
+    if tree.is_none() {
+        println!("tree, {name}: over the limits");
+    }
+}
+
+/// Times the searches of a list of so many rules, without a tree.
+fn time_list_searches(size: usize, Kind { name, rules, headers }: &Kind, libraries: &[Library; 2]) {
+    time_all(&format!("{size} rules, {name}"), rules, headers, None, libraries);
+}
+
+/// Compares what the two find by the good list, and by this tree of it, and then times them. The rules have action 0,
+/// so whole answers are compared.
+fn time_all(name: &str, rules: &[u32], headers: &[[u32; 5]], tree: Option<&Tree>, libraries: &[Library; 2]) {
+    let own = libraries.each_ref().map(|library| library.own(rules));
+    let found = |which: usize, header| find(&libraries[which], &own[which], tree, header);
+    for header in headers {
         assert_eq!(found(0, header), found(1, header), "both find the same");
     }
 
     let mut out = [0; MOST_RULES];
     let mut search = |call: &str, search: Search| {
         let times = in_turn(|which| {
-            for header in &headers {
+            for header in headers {
                 black_box(search(&libraries[which], &own[which], black_box(header), black_box(&mut out)));
             }
         });
@@ -106,7 +127,7 @@ fn time_searches(name: &str, rules: &[u32], draw: &mut impl FnMut() -> u32, libr
     search("line first", &mut |library, rules, header, _| library.line_first(rules, header));
     search("scan first", &mut |library, rules, header, _| library.scan_first(rules, header));
     search("scan all", &mut |library, rules, header, out| library.scan_all(rules, header, out));
-    let Some(tree) = &tree else { return println!("tree, {name}: over the limits") };
+    let Some(tree) = tree else { return };
     search("tree first", &mut |library, rules, header, _| library.tree_first(rules, tree, header));
     search("tree all", &mut |library, rules, header, out| library.tree_all(rules, tree, header, out));
 }
@@ -124,7 +145,8 @@ fn find(library: &Library, rules: &[u32], tree: Option<&Tree>, header: &[u32; 5]
         answers.push(library.tree_first(rules, tree, header));
         answers.push(library.tree_all(rules, tree, header, by_tree));
     }
-    assert!(answers.iter().all(|answer| answer[0] == 0 && answer[3] > 0), "a rule is found");
+    let is_found = answers[0][3] > 0;
+    assert!(answers.iter().all(|answer| answer[0] == 0 && (answer[3] > 0) == is_found), "all find a rule, or none");
     (answers, out)
 }
 

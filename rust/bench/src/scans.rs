@@ -18,10 +18,10 @@ const ROUNDS: usize = 4;
 type Header = [u32; 5];
 
 /// A list, and headers to search for.
-struct Kind {
-    name: &'static str,
-    rules: Vec<u32>,
-    headers: Vec<Header>,
+pub struct Kind {
+    pub name: &'static str,
+    pub rules: Vec<u32>,
+    pub headers: Vec<Header>,
 }
 
 #[inline(never)]
@@ -55,19 +55,29 @@ fn kinds(draw: &mut impl FnMut() -> u32) -> Vec<Kind> {
     vec![
         Kind { name: "a rule for each 512th of the sources", rules: strips, headers: headers(&mut || anywhere(draw)) },
         Kind { name: "drawn prefixes and ranges", rules: drawn, headers: inside },
-        Kind {
-            name: "other protocols, so no rule matches and all five fields are compared",
-            rules: rules(&mut |rule| [0, 0, 0, 0, 0, 65_535, 0, 65_535, 1 + rule % 128, 255 - rule / 128, 0]),
-            headers: headers(&mut || [draw(), draw(), draw() & 65_535, draw() & 65_535, 0]),
-        },
-        Kind {
-            name: "every rule matches",
-            rules: rules(&mut |rule| [0, 0, 0, 0, rule, 65_535, 0, 65_535, 0, 255, 0]),
-            headers: headers(&mut || {
-                [draw(), draw(), MOST_RULES as u32 + draw() % 65_000, draw() & 65_535, draw() & 255]
-            }),
-        },
+        other_protocols(MOST_RULES, HEADERS, draw),
+        all_matching(MOST_RULES, HEADERS, draw),
     ]
+}
+
+/// So many rules, up to 512, and so many headers. They agree in all fields but the last, the protocol.
+pub fn other_protocols(size: usize, headers: usize, draw: &mut impl FnMut() -> u32) -> Kind {
+    let rule = |rule| [0, 0, 0, 0, 0, 65_535, 0, 65_535, 1 + rule % 128, 255 - rule / 128, 0];
+    Kind {
+        name: "other protocols, so no rule matches and all five fields are compared",
+        rules: (0..size as u32).flat_map(rule).collect(),
+        headers: (0..headers).map(|_| [draw(), draw(), draw() & 65_535, draw() & 65_535, 0]).collect(),
+    }
+}
+
+/// So many rules, up to 512, and so many headers, each of which all of them match.
+pub fn all_matching(size: usize, headers: usize, draw: &mut impl FnMut() -> u32) -> Kind {
+    let mut header = || [draw(), draw(), MOST_RULES as u32 + draw() % 65_000, draw() & 65_535, draw() & 255];
+    Kind {
+        name: "every rule matches",
+        rules: (0..size as u32).flat_map(|rule| [0, 0, 0, 0, rule, 65_535, 0, 65_535, 0, 255, 0]).collect(),
+        headers: (0..headers).map(|_| header()).collect(),
+    }
 }
 
 /// A good rule: two prefixes of any length, three ranges, and action 0. No range of ports ends at 65,535, where a

@@ -38,6 +38,7 @@ pub enum Call {
     PartWrite = 16,
     PartRead = 17,
     AclWrite = 18,
+    RuleMisses = 19,
 }
 
 impl Call {
@@ -62,6 +63,7 @@ impl Call {
             Call::PartWrite => "wick_part_write",
             Call::PartRead => "wick_part_read",
             Call::AclWrite => "wick_acl_write",
+            Call::RuleMisses => "wick_rule_misses",
         }
     }
 

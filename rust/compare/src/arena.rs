@@ -136,6 +136,13 @@ impl Arena {
         std::array::from_fn(|index| u64::from_ne_bytes(words[index]))
     }
 
+    /// The words of the slice of this name as the library left them.
+    pub fn found_words(&self, name: &str) -> Vec<u32> {
+        let lent = self.lent.iter().find(|lent| lent.name == name).expect("a slice of this name is lent");
+        let (words, _) = self.found.bytes()[lent.range()].as_chunks();
+        words.iter().map(|&word| u32::from_ne_bytes(word)).collect()
+    }
+
     /// Is every byte of the arena as it must be?
     pub fn is_as_wanted(&self) -> bool {
         self.found.bytes() == self.wanted

@@ -116,13 +116,33 @@ impl Bench {
         self.compare(inputs, &[lent_rules, lent_header], answer)
     }
 
-    /// All calls on a list. The writers have ample room, and all-match has room for a number of every rule, and one
-    /// over; the answer of the line search for all is given back.
+    /// The numbers that the library itself writes for all rules that match, which are those that the oracle writes.
+    pub fn line_numbers(&mut self, case: &str, rules: &[u32], header: &[u32]) -> Result<Vec<u32>, String> {
+        let count = self.line_all(case, rules, header, rules.len() / RULE_WORDS)?.a as usize;
+        let mut numbers = self.arena.found_words("out");
+        numbers.truncate(count);
+        Ok(numbers)
+    }
+
+    pub fn rule_misses(&mut self, case: &str, rules: &[u32], header: &[u32], number: u64) -> Agreed {
+        self.arena.take_back();
+        let lent_rules = self.arena.lend("rules", rules);
+        let lent_header = self.arena.lend("header", header);
+        let answer = oracle::rule_misses(rules, header, number);
+        let named = Inputs::of(Call::RuleMisses, case);
+        let inputs = Inputs { rules: Some(rules), header: Some(header), asked: Some(number), ..named };
+        self.compare(inputs, &[lent_rules, lent_header], answer)
+    }
+
+    /// All calls on a list. The writers have ample room, all-match has room for a number of every rule, and one over,
+    /// and the numbers of the rules, and one past the last, are asked for in turn; the answer of the line search for
+    /// all is given back.
     pub fn all_calls(&mut self, case: &str, rules: &[u32], header: &[u32]) -> Agreed {
         self.rule_check(case, rules)?;
         self.write_rules(case, rules)?;
         self.scan_first(case, rules, header)?;
         self.scan_all(case, rules, header, rules.len() / RULE_WORDS + 1)?;
+        self.rule_misses(case, rules, header, self.calls % (rules.len() / RULE_WORDS + 1) as u64)?;
         self.line_first(case, rules, header)?;
         self.line_all(case, rules, header, rules.len() / RULE_WORDS + 1)
     }
@@ -204,7 +224,7 @@ impl Bench {
         let oracle = answer_words(&answer);
         let lent_answer = self.arena.lend_answer();
         self.arena.want_answer(lent_answer, oracle);
-        let given = [inputs.rule_count, inputs.most].into_iter().flatten();
+        let given = [inputs.rule_count, inputs.most, inputs.asked].into_iter().flatten();
         let mut numbers = [0; 2];
         numbers.iter_mut().zip(given).for_each(|(number, given)| *number = given);
         let request = Request { call: inputs.call, slices, numbers, answer: lent_answer };

@@ -1,8 +1,8 @@
-//! Compares Wickorchard with the oracle on seeded inputs grouped by purpose: the library, call by call, or the program,
-//! run by run.
+//! Compares Wickorchard with the oracle on seeded inputs grouped by purpose: the library, call by call, or the program
+//! or the program `why`, run by run.
 //!
 //! The library is x86-64 code, so its calls are made by a program of their own, the lender. The words that start it, or
-//! the program, are given to this one: on a machine of another kind an emulator comes first.
+//! a program, are given to this one: on a machine of another kind an emulator comes first.
 //!
 //! Each group writes a line: what it does, how many calls or runs it compared, and how they were answered. The first
 //! that differs, or that does not come back, is written out with its inputs and both answers, and the status is then 1.
@@ -41,7 +41,7 @@ use std::ffi::OsString;
 use std::path::PathBuf;
 use std::process::ExitCode;
 
-use bench::Bench;
+use bench::{Bench, Run};
 use process::Program;
 use trials::Trials;
 
@@ -54,7 +54,8 @@ const FOLDER_VARIABLE: &str = "WICKORCHARD_COMPARE_FOLDER";
 
 const USAGE: &str =
     "usage: compare library COMMAND.., the words that start the lender; the arena's path is put after them
-       compare program COMMAND.., the words that start the program from any folder";
+       compare program COMMAND.., the words that start the program from any folder
+       compare why COMMAND.., the words that start the program `why` from any folder";
 
 fn main() -> ExitCode {
     let words: Vec<OsString> = env::args_os().skip(1).collect();
@@ -62,7 +63,12 @@ fn main() -> ExitCode {
     let own_name = |what: &str| folder.join(format!("wickorchard-{what}-{}", std::process::id()));
     let compared = match words.split_first() {
         Some((what, command)) if what == "library" && !command.is_empty() => library(command, own_name("arena")),
-        Some((what, command)) if what == "program" && !command.is_empty() => program(command, own_name("runs")),
+        Some((what, command)) if what == "program" && !command.is_empty() => {
+            program("the program", groups::run_program, command, own_name("runs"))
+        }
+        Some((what, command)) if what == "why" && !command.is_empty() => {
+            program("why", groups::run_why, command, own_name("runs"))
+        }
         _ => Err(USAGE.to_string()),
     };
     match compared {
@@ -94,13 +100,14 @@ fn library(command: &[OsString], arena: PathBuf) -> Compared {
     Ok(ended.map(|calls| format!("{calls} calls")))
 }
 
-fn program(command: &[OsString], folder: PathBuf) -> Compared {
+/// A program of this name, by these groups of runs.
+fn program(name: &'static str, groups: fn(&mut Trials) -> Run, command: &[OsString], folder: PathBuf) -> Compared {
     let program = Program::new(command, folder).map_err(|error| format!("a folder cannot be made: {error}"))?;
-    let mut trials = Trials::new(program);
-    let differ = groups::run_program(&mut trials).err();
+    let mut trials = Trials::new(name.trim_start_matches("the "), program);
+    let differ = groups(&mut trials).err();
     let (runs, lines) = trials.finish().map_err(|error| format!("a folder cannot be removed: {error}"))?;
     Ok(match differ {
-        Some(mismatch) => Err(format!("\n{mismatch}\ncompare: the program and the oracle differ")),
-        None => Ok(format!("{runs} runs of the program, and the {lines} lines that it wrote,")),
+        Some(mismatch) => Err(format!("\n{mismatch}\ncompare: {name} and the oracle differ")),
+        None => Ok(format!("{runs} runs of {name}, and the {lines} lines that it wrote,")),
     })
 }

@@ -25,6 +25,8 @@ pub struct Inputs<'a> {
     pub rule_count: Option<u64>,
     /// How many nodes are built at most.
     pub most: Option<u64>,
+    /// The number of the rule that is asked for.
+    pub asked: Option<u64>,
     /// The node words and the pool.
     pub tree: Option<(&'a [u32], &'a [u32])>,
     pub header: Option<&'a [u32]>,
@@ -36,8 +38,9 @@ pub struct Inputs<'a> {
 impl<'a> Inputs<'a> {
     /// The call with nothing that it is given.
     pub fn of(call: Call, case: &'a str) -> Inputs<'a> {
-        let (rules, rule_count, most, tree, header, text) = (None, None, None, None, None, None);
-        Inputs { call, case, rules, rule_count, most, tree, header, text, rooms: &[] }
+        let (rule_count, most, asked) = (None, None, None);
+        let (rules, tree, header, text) = (None, None, None, None);
+        Inputs { call, case, rules, rule_count, most, asked, tree, header, text, rooms: &[] }
     }
 }
 
@@ -69,6 +72,9 @@ impl Display for Mismatch<'_> {
         if let Some(most) = self.inputs.most {
             writeln!(to, "  most     {most} nodes")?;
         }
+        if let Some(asked) = self.inputs.asked {
+            writeln!(to, "  asked    rule {asked}")?;
+        }
         if let Some((nodes, pool)) = self.inputs.tree {
             writeln!(to, "  nodes    {} words", nodes.len())?;
             for (number, node) in nodes.chunks(3).enumerate().take(SHOWN_NODES) {
@@ -97,8 +103,8 @@ impl Display for Mismatch<'_> {
 }
 
 impl Mismatch<'_> {
-    /// Writes the first rules of the list, and those that either answer names: by its place, its extra, or the value of
-    /// a first-match, which is the rule's number + 1.
+    /// Writes the first rules of the list, the one that is asked for, and those that either answer names: by its place,
+    /// its extra, or the value of a first-match, which is the rule's number + 1.
     fn show_rules(&self, to: &mut Formatter) -> fmt::Result {
         let Some(rules) = self.inputs.rules else { return Ok(()) };
         writeln!(to, "  rules    {} words", rules.len())?;
@@ -108,7 +114,7 @@ impl Mismatch<'_> {
             Deed::Stayed(_) => names(&self.oracle, number),
         };
         for (number, rule) in (0..).zip(rules.chunks(RULE_WORDS)) {
-            if number < SHOWN_RULES || named(number) {
+            if number < SHOWN_RULES || self.inputs.asked == Some(number) || named(number) {
                 writeln!(to, "    rule {number}: {rule:?}")?;
             }
         }

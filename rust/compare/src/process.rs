@@ -1,9 +1,10 @@
-//! The program as a process: started in its folder, fed through standard input, and listened to.
+//! A program as a process: started in its folder, fed through standard input, and listened to.
 
 use std::ffi::OsString;
 use std::fmt::{self, Display, Formatter};
 use std::fs::{self, File};
 use std::io::{self, Read, Write};
+use std::os::unix::ffi::OsStringExt;
 use std::path::{Path, PathBuf};
 use std::process::{Child, ChildStdin, ChildStdout, Command, ExitStatus, Stdio};
 use std::sync::mpsc::{self, Receiver, RecvTimeoutError, Sender};
@@ -68,6 +69,12 @@ impl Program {
         let program = Program { command: command.to_vec(), base };
         fs::create_dir_all(program.folder())?;
         Ok(program)
+    }
+
+    /// The same program, with these words after its command.
+    pub fn started_with(&self, words: &[Vec<u8>]) -> Program {
+        let words = words.iter().map(|word| OsString::from_vec(word.clone()));
+        Program { command: self.command.iter().cloned().chain(words).collect(), base: self.base.clone() }
     }
 
     /// The folder that the program is run in, which has its two files.

@@ -1,10 +1,11 @@
-//! Runs of the program beside the oracle's own, with all that it writes compared byte for byte.
+//! Runs of a program beside the oracle's own, with all that it writes compared byte for byte.
 
+use std::collections::BTreeMap;
 use std::io::{self, Write};
 use std::thread;
 use std::time::Instant;
 
-use oracle::program;
+use oracle::{program, why};
 
 use crate::bench::Run;
 use crate::placed::{self, Placed};
@@ -15,37 +16,57 @@ const SHOWN_BYTES: usize = 600;
 /// The bytes that are written out before the first difference, and after it.
 const SHOWN_BESIDE: usize = 100;
 
-/// The two files as they stand in the program's folder.
+/// The two files as they stand in the program's folder, and what it is started with.
 #[derive(Clone, Debug)]
 pub struct Stand {
     pub rules: Placed,
     pub tree: Placed,
+    /// The words that `why` is started with; None where the other program is run, which takes none.
+    pub words: Option<Vec<Vec<u8>>>,
 }
 
 impl Stand {
     pub fn of(rules: impl Into<Vec<u8>>, tree: impl Into<Vec<u8>>) -> Stand {
-        Stand { rules: Placed::file(rules), tree: Placed::file(tree) }
+        Stand::placed(Placed::file(rules), Placed::file(tree))
+    }
+
+    pub fn placed(rules: Placed, tree: Placed) -> Stand {
+        Stand { rules, tree, words: None }
+    }
+
+    /// The same for `why`, started with these words.
+    pub fn asked(self, words: &[impl AsRef<[u8]>]) -> Stand {
+        Stand { words: Some(words.iter().map(|word| word.as_ref().to_vec()).collect()), ..self }
     }
 
     /// What the oracle's program writes.
     pub fn answers(&self, input: &[u8]) -> Vec<u8> {
-        program(self.rules.found(), self.tree.found(), input)
+        match &self.words {
+            None => program(self.rules.found(), self.tree.found(), input),
+            Some(words) => why(&words.iter().map(Vec::as_slice).collect::<Vec<_>>(), self.rules.found(), input),
+        }
     }
 }
 
+/// Written lines by their first word and, where that is `refused`, by number.
+type Tally = BTreeMap<(String, u64), u64>;
+
 pub struct Trials {
+    /// What the lines of the groups begin with.
+    name: &'static str,
     program: Program,
     group: String,
     runs: u64,
     lines: u64,
-    /// The written lines of the group: hits, and refusals by number.
-    tally: [u64; 13],
+    /// The written lines of the group.
+    tally: Tally,
     note: String,
 }
 
 impl Trials {
-    pub fn new(program: Program) -> Trials {
-        Trials { program, group: String::new(), runs: 0, lines: 0, tally: [0; 13], note: String::new() }
+    pub fn new(name: &'static str, program: Program) -> Trials {
+        let (group, note) = (String::new(), String::new());
+        Trials { name, program, group, runs: 0, lines: 0, tally: Tally::new(), note }
     }
 
     /// Removes the program's folders. Gives how many runs were compared, and how many lines they wrote.
@@ -55,11 +76,11 @@ impl Trials {
 
     /// Runs a group of comparisons, and writes its line: what it does at once, what came of it at its end.
     pub fn group(&mut self, deed: &str, run: impl FnOnce(&mut Trials) -> Run) -> Run {
-        self.group = format!("program: {deed}");
+        self.group = format!("{}: {deed}", self.name);
         print!("{} ..", self.group);
         io::stdout().flush().expect("standard output is written");
         let (runs, lines, start) = (self.runs, self.lines, Instant::now());
-        self.tally = [0; 13];
+        self.tally.clear();
         self.note.clear();
         run(self)?;
         assert!(self.runs > runs, "a group compares something");
@@ -125,7 +146,8 @@ impl Trials {
         self.judge(&Trial { case, stand, input, manner, wrote: Vec::new(), fault }, b"").map(|_| ())
     }
 
-    /// Puts both files into the program's folder, has the program run, and feeds those that are pipes for so long.
+    /// Puts both files into the program's folder, has the program run, started with its words, and feeds those that are
+    /// pipes for so long.
     fn with_files<T>(&self, stand: &Stand, run: impl FnOnce(&Program) -> io::Result<T>) -> Result<T, String> {
         thread::scope(|scope| {
             for (name, placed) in [("rules.txt", &stand.rules), ("tree.txt", &stand.tree)] {
@@ -133,7 +155,8 @@ impl Trials {
                 placed.put(&path).map_err(|error| format!("{} cannot be made: {error}", path.display()))?;
                 scope.spawn(move || placed.feed(&path));
             }
-            run(&self.program).map_err(|error| format!("the program cannot be run: {error}"))
+            let program = self.program.started_with(stand.words.as_deref().unwrap_or_default());
+            run(&program).map_err(|error| format!("the program cannot be run: {error}"))
         })
     }
 
@@ -145,7 +168,7 @@ impl Trials {
         self.runs += 1;
         for line in wanted.split_inclusive(|&byte| byte == b'\n') {
             self.lines += 1;
-            self.tally[refusal_of(line)] += 1;
+            *self.tally.entry(kind_of(line)).or_default() += 1;
         }
         Ok(trial.wrote.clone())
     }
@@ -170,6 +193,9 @@ impl Trial<'_> {
         let mut say = |name: &str, what: &str| text += &format!("  {name:<10} {what}\n");
         say("group", group);
         say("case", self.case);
+        if let Some(words) = &self.stand.words {
+            say("words", &words.iter().map(|word| format!("\"{}\" ", shown(word))).collect::<String>());
+        }
         say("rules.txt", &placed_text(&self.stand.rules));
         say("tree.txt", &placed_text(&self.stand.tree));
         say("input", &format!("{}, {}", self.manner, bytes_text(self.input)));
@@ -188,16 +214,22 @@ impl Trial<'_> {
     }
 }
 
-/// 0 for a hit, else the refusal's number.
-fn refusal_of(line: &[u8]) -> usize {
-    let number = line.split(|&byte| byte == b'\t').nth(1).filter(|_| line.starts_with(b"refused"));
-    number.map_or(0, |number| String::from_utf8_lossy(number).parse().expect("the oracle writes numbers"))
+/// The line's first word, and the number of a refusal.
+fn kind_of(line: &[u8]) -> (String, u64) {
+    let line = String::from_utf8_lossy(line);
+    let mut words = line.trim_end().split('\t');
+    let first = words.next().unwrap_or_default().to_string();
+    let number = words.next().filter(|_| first == "refused");
+    (first, number.map_or(0, |number| number.parse().expect("the oracle writes numbers")))
 }
 
-fn tally_text(tally: &[u64; 13]) -> String {
-    let refused = tally.iter().enumerate().skip(1).filter(|(_, &count)| count > 0);
-    let refused: String = refused.map(|(number, count)| format!(", {count} refused {number}")).collect();
-    format!("{} hits{refused}", tally[0])
+fn tally_text(tally: &Tally) -> String {
+    let number = |number: &u64| if *number == 0 { String::new() } else { format!(" {number}") };
+    let counts = tally.iter().map(|((first, refusal), count)| format!("{count} {first}{}", number(refusal)));
+    match counts.collect::<Vec<_>>().join(", ") {
+        none if none.is_empty() => "nothing written".to_string(),
+        counts => counts,
+    }
 }
 
 fn first_difference(wrote: &[u8], wanted: &[u8]) -> Option<usize> {

@@ -80,7 +80,7 @@ fn auditor(page: &str, counts: &Counts) -> Result<String, String> {
     let page = pages::with_files(page, &pages::files(counts))?;
     let page = pages::with_part(&page, "definitions", &pages::definitions(counts))?;
     let page = pages::with_part(&page, "calls", &pages::calls(counts))?;
-    let page = pages::with_part(&page, "program", &pages::program(counts))?;
+    let page = pages::with_part(&page, "programs", &pages::programs(counts))?;
     let page = pages::with_part(&page, "unread", &pages::unread(counts))?;
     pages::with_part(&page, "gate", &pages::gate(counts))
 }

@@ -9,6 +9,10 @@ use crate::counts::Counts;
 
 const END: &str = "<!-- end of counted -->";
 
+/// The library of what the programs ask of the system, and the program of examples, which is none of theirs.
+const SYSTEM: &str = "system";
+const VECTORS: &str = "vectors";
+
 /// A number with a comma before each three digits.
 pub fn number(n: usize) -> String {
     match n {
@@ -83,12 +87,12 @@ fn table(head: &[&str], rows: impl Iterator<Item = Vec<String>>) -> String {
 pub fn figures(counts: &Counts) -> String {
     let believed = number(counts.lines(|one, column| !one.of_code && column < 2));
     let claims = counts.lines(|one, _| one.krate == "claims");
-    let code = |name: &str| number(counts.code_lines(|one| one.name == name));
+    let programs = |vectors: bool| counts.code_lines(|one| one.is_program() && (one.name == VECTORS) == vectors);
     let rows = [
         ("lines of definitions to be believed", format!("{believed}, of which {claims} are the claims")),
         ("lines of code with its contracts, in the libraries", number(counts.code_lines(|one| !one.is_program()))),
-        ("lines of code with its contracts, in the program", code("wickorchard")),
-        ("lines of code with its contracts, in the vectors", code("vectors")),
+        ("lines of code with its contracts, in the programs", number(programs(false))),
+        ("lines of code with its contracts, in the vectors", number(programs(true))),
         ("lines of proof, with comments, imports and empty lines", number(counts.proof_lines())),
         ("functions proved", format!("{}, of which {} are public", counts.functions.len(), counts.public().count())),
         ("wrong answers that the prover refuses", number(counts.edits().len())),
@@ -126,17 +130,19 @@ pub fn calls(counts: &Counts) -> String {
     table(&["Call", "Its code", "Its contract cites"], rows)
 }
 
-/// AUDITOR: the functions of the program that have no `ensures` which cites a definition.
-pub fn program(counts: &Counts) -> String {
-    let unsaid = counts.functions.iter().filter(|one| one.krate == "wickorchard");
+/// AUDITOR: the functions of the programs, and of what they ask of the system, that have no `ensures` which cites a
+/// definition.
+pub fn programs(counts: &Counts) -> String {
+    let theirs = |name: &str| name == SYSTEM || (counts.is_program(name) && name != VECTORS);
+    let unsaid = counts.functions.iter().filter(|one| theirs(&one.krate));
     let unsaid: Vec<_> = unsaid.filter(|one| counts.cited(&one.ensures).next().is_none()).collect();
-    let rows = unsaid.chunk_by(|a, b| a.file == b.file).map(|same| {
+    let rows = unsaid.chunk_by(|a, b| (&a.krate, &a.file) == (&b.krate, &b.file)).map(|same| {
         let names: Vec<String> = same.iter().map(|one| format!("`{}`", one.name)).collect();
         let lines = same.iter().map(|one| one.lines).sum();
-        vec![format!("`{}.rt`", same[0].file), names.join(", "), number(lines)]
+        vec![format!("`{}/src/{}.rt`", same[0].krate, same[0].file), names.join(", "), number(lines)]
     });
     let lines = unsaid.iter().map(|one| one.lines).sum();
-    let all = counts.code_lines(|one| one.name == "wickorchard");
+    let all = counts.code_lines(|one| theirs(&one.name));
     let together = vec!["together".to_string(), String::new(), format!("{} of {all}", number(lines))];
     table(&["File", "Functions", "Lines"], rows.chain([together]))
 }
@@ -159,11 +165,14 @@ pub fn gate(counts: &Counts) -> String {
 
 /// README: how much was compared, from what `.ci/compare` wrote.
 pub fn compared(said: &str) -> Result<String, String> {
-    let line = |end: &str| said.lines().find(|line| line.starts_with("compare: ") && line.ends_with(end)).unwrap_or("");
-    let words = format!("{} {}", line(" calls agree"), line(" lines that it wrote, agree"));
+    let last = said.lines().filter(|line| line.starts_with("compare: ") && line.ends_with(" agree"));
+    let line = |words: &str| last.clone().find(|line| line.contains(words)).unwrap_or("");
+    let words = [" calls agree", " runs of the program, ", " runs of why, "].map(line).join(" ");
     let numbers: Vec<String> = words.split(' ').filter_map(|word| word.parse().ok()).map(number).collect();
-    let [calls, runs, lines] = &numbers[..] else {
-        return Err("the two last lines of .ci/compare are not there".into());
+    let [calls, runs, lines, why_runs, why_lines] = &numbers[..] else {
+        return Err("the three last lines of .ci/compare are not there".into());
     };
-    Ok(format!("Compared with the independent program: {calls} calls; {runs} runs, which wrote {lines} lines.\n"))
+    let program = format!("{runs} runs of the program, which wrote {lines} lines");
+    let why = format!("{why_runs} runs of `why`, which wrote {why_lines} lines");
+    Ok(format!("Compared with the independent program: {calls} calls; {program};\nand {why}.\n"))
 }

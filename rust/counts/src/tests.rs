@@ -170,8 +170,10 @@ fn the_tables_have_the_counts() {
 
 #[test]
 fn what_was_compared_is_taken_from_the_last_lines() {
-    let said =
-        "compare: 1174408 calls agree\ncompare: 53 runs of the program, and the 1000 lines that it wrote, agree\n";
-    assert!(pages::compared(said).unwrap().contains(" 1,174,408 calls; 53 runs, which wrote 1,000 lines."));
-    assert!(pages::compared("compare: 12 calls agree\n").is_err());
+    let runs = |of: &str| format!("compare: 53 runs of {of}, and the 1000 lines that it wrote, agree\n");
+    let (calls, program, why) = ("compare: 1174408 calls agree\n", runs("the program"), runs("why").replace("53", "7"));
+    let text = pages::compared(&format!("{calls}{program}{why}")).unwrap();
+    assert!(text.contains(" 1,174,408 calls; 53 runs of the program, which wrote 1,000 lines;\n"));
+    assert!(text.ends_with("and 7 runs of `why`, which wrote 1,000 lines.\n"));
+    assert!(pages::compared(calls).is_err() && pages::compared(&format!("{calls}{program}")).is_err());
 }

@@ -37,6 +37,8 @@ pub enum Refusal {
     RuleWords,
     /// A rule is not good; this is the lowest such rule.
     RuleNotGood { rule: usize },
+    /// The list has no rule of this number, which may be any 64-bit one.
+    NoSuchRule { number: u64 },
     /// The header is not five words.
     HeaderLength,
     /// A port or the protocol is too large; this is the lowest such field.
@@ -70,6 +72,7 @@ impl Refusal {
         match self {
             Refusal::RuleWords => (1, 0, 0),
             Refusal::RuleNotGood { rule } => (2, rule as u64, 0),
+            Refusal::NoSuchRule { number } => (2, number, 0),
             Refusal::HeaderLength => (3, 5, 0),
             Refusal::HeaderField { field } => (3, field as u64, 0),
             Refusal::OutputShort { needed } => (4, needed as u64, 0),

@@ -8,6 +8,7 @@
 //! - [`line_all`]: the numbers of all rules that match a header;
 //! - [`line_first`]: the lowest number of them, and that rule's action;
 //! - [`scan_all`] and [`scan_first`]: the same, and no list is judged;
+//! - [`rule_misses`]: the lowest field in which one rule of a list and a header disagree;
 //! - [`tree_all`]: the numbers in a leaf that match a header, by a walk through a tree;
 //! - [`tree_first`]: the first number of them, and that rule's action;
 //! - [`tree_check`]: is the tree well formed, and does each leaf list every rule that can match there;
@@ -18,7 +19,8 @@
 //! - [`tree_write`] and [`tree_read`]: a tree as a text file, and back;
 //! - [`part_write`] and [`part_read`]: a build that was stopped as a text file, and back.
 //!
-//! And [`program`] is the program: from its two files and its standard input, what it writes.
+//! And [`program`] is the program: from its two files and its standard input, what it writes. [`why()`] is the program
+//! `why` in the same way.
 //!
 //! Besides, [`builder`] makes trees of other shapes that are right for a list, for the searches and the check to be
 //! tried on, and [`corners`] judges small trees a second time, by searching for every header that could get a wrong
@@ -34,6 +36,7 @@ pub mod corners;
 pub mod header;
 pub mod line;
 pub mod matching;
+pub mod misses;
 pub mod nodes;
 pub mod parts;
 pub mod program;
@@ -46,10 +49,12 @@ pub mod text;
 pub mod tree_check;
 pub mod tree_file;
 pub mod tree_search;
+pub mod why;
 
 pub use answer::{Answer, Refusal};
 pub use build::build;
 pub use line::{line_all, line_first};
+pub use misses::rule_misses;
 pub use program::program;
 pub use rule_file::{acl_write, rules_read, rules_write};
 pub use rules::rule_check;
@@ -58,3 +63,4 @@ pub use stops::{build_on, build_some};
 pub use tree_check::tree_check;
 pub use tree_file::{part_read, part_write, tree_read, tree_write};
 pub use tree_search::{tree_all, tree_first};
+pub use why::why;

@@ -1,15 +1,36 @@
-//! When a rule matches a header. This is defined for any words, good or not. The action takes no part in it.
+//! In which field a rule and a header disagree first, and so when the rule matches. This is defined for any words, good
+//! or not. The action takes no part in it.
 
 use crate::header::{Header, ABSENT_PORT};
 use crate::rules::{Prefix, Range, Rule};
 
-/// Does each address agree in the rule's first bits, and does each other field lie in its range?
+/// The fields of a rule, and of a header.
+pub const FIELDS: usize = 5;
+
+/// Does the rule match the header? It does where they disagree in no field.
 pub fn matches(rule: &Rule, header: &Header) -> bool {
-    agrees(rule.source, header.source)
-        && agrees(rule.destination, header.destination)
-        && takes_port(rule.source_port, header.source_port)
-        && takes_port(rule.destination_port, header.destination_port)
-        && lies_in(rule.protocol, header.protocol)
+    first_miss(rule, header) == FIELDS
+}
+
+/// The lowest field in which the rule and the header disagree, or the number of fields. The fields are looked at by
+/// rising number.
+pub fn first_miss(rule: &Rule, header: &Header) -> usize {
+    if !agrees(rule.source, header.source) {
+        return 0;
+    }
+    if !agrees(rule.destination, header.destination) {
+        return 1;
+    }
+    if !takes_port(rule.source_port, header.source_port) {
+        return 2;
+    }
+    if !takes_port(rule.destination_port, header.destination_port) {
+        return 3;
+    }
+    if !lies_in(rule.protocol, header.protocol) {
+        return 4;
+    }
+    FIELDS
 }
 
 /// Are the first *length* bits of both addresses the same? They are compared one by one, from the most

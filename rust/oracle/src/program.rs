@@ -38,19 +38,30 @@ pub fn program(rules: Found, tree: Found, input: &[u8]) -> Vec<u8> {
     if let Err(answer) = judge_tree_file(&list, tree) {
         written += &refused_line(answer);
     }
+    written += &replies(input, |header| reply(&list, header));
+    written.into_bytes()
+}
+
+/// What a program writes for its input, of which each whole line is to be a head line: what `reply` says to the header
+/// of a line that is one, and 9 with its number, counted from 1, for any other. A last part without newline is 10.
+pub fn replies(input: &[u8], reply: impl Fn(&[u32; 5]) -> String) -> String {
+    let mut written = String::new();
     let mut lines = parts(input, b'\n');
     let last_part = lines.pop().expect("any input has a last part");
     for (line, bytes) in (1..).zip(&lines) {
-        written += &reply(&list, line, bytes);
+        written += &match head_line(bytes) {
+            Some(header) => reply(&header),
+            None => refused_line(Answer::refused(Refusal::LineWrong { line })),
+        };
     }
     if !last_part.is_empty() {
         written += &refused_line(Answer::refused(Refusal::TextStops { lines: lines.len() }));
     }
-    written.into_bytes()
+    written
 }
 
 /// The words of the list that `rules.txt` holds; otherwise 12, 9, 10 or 11.
-fn load_rules(found: Found) -> Result<Vec<u32>, Answer> {
+pub fn load_rules(found: Found) -> Result<Vec<u32>, Answer> {
     let text = text_of_file(found)?;
     let mut words = vec![0; MOST_RULES * RULE_WORDS];
     let read = completed(rules_read(text, &mut words))?;
@@ -69,7 +80,7 @@ fn judge_tree_file(list: &[u32], found: Found) -> Result<(), Answer> {
 }
 
 /// The bytes of a file that can be read and is not too long; otherwise 12.
-fn text_of_file(found: Found<'_>) -> Result<&[u8], Answer> {
+pub fn text_of_file(found: Found<'_>) -> Result<&[u8], Answer> {
     match found {
         Found::Bytes(bytes) if bytes.len() <= MOST_BYTES => Ok(bytes),
         _ => Err(Answer::refused(Refusal::FileNotRead)),
@@ -84,13 +95,10 @@ fn completed(answer: Answer) -> Result<Answer, Answer> {
     }
 }
 
-/// What is written for this whole line of the input, counted from 1.
-fn reply(list: &[u32], line: usize, bytes: &[u8]) -> String {
-    let Some(header) = head_line(bytes) else {
-        return refused_line(Answer::refused(Refusal::LineWrong { line }));
-    };
+/// What is written for a line that has this header.
+fn reply(list: &[u32], header: &[u32; 5]) -> String {
     let mut matching = [0; MOST_RULES];
-    match completed(line_all(list, &header, &mut matching)) {
+    match completed(line_all(list, header, &mut matching)) {
         Err(answer) => refused_line(answer),
         Ok(answer) => hit_line(&matching[..answer.a as usize]),
     }
@@ -112,6 +120,6 @@ fn hit_line(matching: &[u32]) -> String {
     format!("hit\t{}{listed}\n", matching.len())
 }
 
-fn refused_line(answer: Answer) -> String {
+pub fn refused_line(answer: Answer) -> String {
     format!("refused\t{}\t{}\t{}\n", answer.number, answer.place, answer.extra)
 }

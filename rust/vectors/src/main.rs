@@ -5,6 +5,7 @@
 
 mod actions;
 mod limits;
+mod misses;
 mod say;
 mod twins;
 mod worked;
@@ -18,6 +19,9 @@ fn main() {
     twins::rule_file();
     actions::lists();
     actions::rule_file();
+    misses::worked_list();
+    misses::narrow_rule();
+    misses::refused();
     limits::lengths();
     limits::ports();
     limits::rules();

@@ -95,6 +95,12 @@ pub fn search_tree(example: &str, rules: &[u32], tree: &Tree, header: &[u32]) {
     line(example, "tree_first", answer, &values, &[]);
 }
 
+/// The lowest field of this rule that disagrees with the header, or 5 where it matches.
+pub fn rule_misses(example: &str, rules: &[u32], header: &[u32], number: u64) {
+    let answer = oracle::rule_misses(rules, header, number);
+    line(example, "rule_misses", answer, &numbers(&[answer.a]), &[]);
+}
+
 /// Writes a list's file without actions into so many bytes, which it hands back.
 pub fn rules_write(example: &str, rules: &[u32], room: usize) -> Vec<u8> {
     let mut text = vec![0; room];

@@ -8,6 +8,7 @@
 //! `u32::from_be_bytes([a, b, c, d])`. [`Header::words`](crate::Header::words) makes the words of a header, in which a
 //! port that is absent is [`ABSENT_PORT`](crate::limits::ABSENT_PORT).
 
+use crate::header::Field;
 use crate::limits::NODE_WORDS;
 use crate::raw::{self, Answer, ListWriter};
 use crate::refusal::Refusal;
@@ -133,6 +134,30 @@ pub fn scan_first(rules: &[u32], header: &[u32]) -> Result<Option<Match>, Refusa
         raw::wick_scan_first(rules.as_ptr(), rules.len() as u64, header.as_ptr(), header.len() as u64, answer)
     })
     .map(found)
+}
+
+/// Why did this rule miss? Judges the list; then compares its rule `number` with the header, and gives the lowest field
+/// that disagrees, or `None` where the rule matches: 1, 2, 11, 3, then 2 where the list has no rule of this number.
+///
+/// ```
+/// use wickorchard::calls::rule_misses;
+/// use wickorchard::{Field, Refusal};
+///
+/// // One rule, from 10.0.0.0/8 to destination port 80, protocol 6.
+/// let rules = [0x0A00_0000, 8, 0, 0, 0, 65_535, 80, 80, 6, 6, 0];
+/// let misses = |port, protocol| rule_misses(&rules, &[0x0A01_0203, 0xC0A8_0001, 40_000, port, protocol], 0);
+/// assert_eq!(misses(80, 6)?, None);
+/// assert_eq!(misses(80, 17)?, Some(Field::Protocol));
+/// assert_eq!(misses(443, 17)?, Some(Field::DestinationPort));
+/// assert_eq!(rule_misses(&rules, &[0; 5], 1), Err(Refusal::RuleNotGood { rule: 1 }));
+/// # Ok::<(), Refusal>(())
+/// ```
+pub fn rule_misses(rules: &[u32], header: &[u32], number: u64) -> Result<Option<Field>, Refusal> {
+    let [field, ..] = answered(|answer| unsafe {
+        let (r, h) = (rules.len() as u64, header.len() as u64);
+        raw::wick_rule_misses(rules.as_ptr(), r, header.as_ptr(), h, number, answer)
+    })?;
+    Ok(Field::ALL.get(field as usize).copied())
 }
 
 /// Writes the numbers in the header's leaf that match it to the front of `out`, and gives them: 3, 6, 7, 4.

@@ -1,5 +1,6 @@
-//! The header of a packet.
+//! The header of a packet, and the names of its fields.
 
+use std::fmt::{self, Display, Formatter};
 use std::net::Ipv4Addr;
 
 use crate::limits::{ABSENT_PORT, HEADER_WORDS};
@@ -54,6 +55,35 @@ impl TryFrom<[u32; HEADER_WORDS]> for Header {
             source_port: port(2, source_port)?,
             destination_port: port(3, destination_port)?,
             protocol: protocol.try_into().map_err(|_| too_large(4))?,
+        })
+    }
+}
+
+/// A field of a header, which each rule has too. `field as usize` is its number, which is its place in the words of a
+/// header.
+#[derive(Clone, Copy, Debug, PartialEq, Eq, PartialOrd, Ord, Hash)]
+pub enum Field {
+    Source = 0,
+    Destination = 1,
+    SourcePort = 2,
+    DestinationPort = 3,
+    Protocol = 4,
+}
+
+impl Field {
+    /// The fields by their numbers.
+    pub const ALL: [Field; HEADER_WORDS] =
+        [Field::Source, Field::Destination, Field::SourcePort, Field::DestinationPort, Field::Protocol];
+}
+
+impl Display for Field {
+    fn fmt(&self, to: &mut Formatter) -> fmt::Result {
+        to.pad(match self {
+            Field::Source => "source",
+            Field::Destination => "destination",
+            Field::SourcePort => "source port",
+            Field::DestinationPort => "destination port",
+            Field::Protocol => "protocol",
         })
     }
 }

@@ -7,7 +7,7 @@
 //!
 //! ```
 //! use wickorchard::limits::MOST_RULES;
-//! use wickorchard::{Header, Match, Policy, Refusal};
+//! use wickorchard::{Field, Header, Match, Policy, Refusal};
 //!
 //! // Two rules, with the actions 1 and 0.
 //! let text = "acl\t2\n\
@@ -29,6 +29,7 @@
 //! // A later fragment has no ports. Rule 0 names one, so it does not match.
 //! let fragment = Header { source_port: None, destination_port: None, ..header };
 //! assert_eq!(policy.first(&fragment), Some(Match { rule: 1, action: 0 }));
+//! assert_eq!(policy.misses(&fragment, 0)?, Some(Field::DestinationPort));
 //!
 //! // A file that was cut short is refused, and never taken for a shorter list.
 //! assert_eq!(Policy::read(&text.as_bytes()[..60]).err(), Some(Refusal::TextStops { lines: 2 }));
@@ -43,6 +44,6 @@ pub mod raw;
 pub mod refusal;
 
 pub use calls::{Kind, Match};
-pub use header::Header;
+pub use header::{Field, Header};
 pub use policy::Policy;
 pub use refusal::Refusal;

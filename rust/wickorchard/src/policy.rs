@@ -2,7 +2,7 @@
 //! once it is compiled from the list.
 
 use crate::calls::{self, Figures, Kind, ListRead, Match, Tree};
-use crate::header::Header;
+use crate::header::{Field, Header};
 use crate::limits::{MOST_NODE_WORDS, MOST_POOL_WORDS, MOST_RULES, MOST_RULE_WORDS, NODE_WORDS, RULE_WORDS};
 use crate::refusal::Refusal;
 
@@ -85,5 +85,11 @@ impl Policy {
             None => calls::scan_first(&self.rules, &header),
         }
         .expect(JUDGED)
+    }
+
+    /// Why did this rule miss? Gives the lowest field of the rule of this number that disagrees with the header, or
+    /// `None` where the rule matches: 2 where the list has no such rule. The list is judged once more for it.
+    pub fn misses(&self, header: &Header, number: u64) -> Result<Option<Field>, Refusal> {
+        calls::rule_misses(&self.rules, &header.words(), number)
     }
 }

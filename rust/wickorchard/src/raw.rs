@@ -31,6 +31,14 @@ extern "C" {
         answer: *mut Answer,
     );
     pub fn wick_scan_first(rules: *const u32, rules_len: u64, header: *const u32, header_len: u64, answer: *mut Answer);
+    pub fn wick_rule_misses(
+        rules: *const u32,
+        rules_len: u64,
+        header: *const u32,
+        header_len: u64,
+        number: u64,
+        answer: *mut Answer,
+    );
     pub fn wick_tree_all(
         rules: *const u32,
         rules_len: u64,

@@ -11,7 +11,8 @@ pub enum Refusal {
     /// 1: the rule words are not a multiple of eleven, or over 5,632; or a tree or a part to write is for more than 512
     /// rules.
     RuleWordsWrong,
-    /// 2: a rule is not good, or has an action that a rules file cannot hold. This is the lowest such rule.
+    /// 2: a rule is not good, or has an action that a rules file cannot hold. This is the lowest such rule. Or the list
+    /// has no rule of this number, which was asked for.
     RuleNotGood { rule: u64 },
     /// 3: a port or the protocol of the header is too large, and this is the lowest such field; or the header is not
     /// five words, and the field is 5.

@@ -3,7 +3,7 @@
 use oracle::Answer;
 use wickorchard::calls::{self, Built, Counted, Figures, ListRead, Part, Tree, TreeCounts};
 use wickorchard::limits::MOST_RULES;
-use wickorchard::{Header, Kind, Match, Policy, Refusal};
+use wickorchard::{Field, Header, Kind, Match, Policy, Refusal};
 
 const RULES_FILE: &[u8] = include_bytes!("../../../examples/worked/rules.txt");
 const TREE_FILE: &[u8] = include_bytes!("../../../examples/worked/tree.txt");
@@ -118,6 +118,43 @@ fn the_list_calls() {
                 }
             }
         }
+    }
+}
+
+#[test]
+fn why_a_rule_missed() {
+    for rules in lists() {
+        for header in HEADERS {
+            for header in [&header[..], &header[..4]] {
+                for number in [0, 1, 2, 3, 512, 1 << 32, u64::MAX] {
+                    let answer = oracle::rule_misses(&rules, header, number);
+                    expect(calls::rule_misses(&rules, header, number), answer, |miss| {
+                        [miss.map_or(5, |field| field as u64), 0, 0]
+                    });
+                }
+            }
+        }
+    }
+    let policy = Policy::read(RULES_FILE).expect("the list is good");
+    for (number, misses) in (0..).zip([
+        [None, Some(Field::DestinationPort), Some(Field::Source)],
+        [None, None, Some(Field::Source)],
+        [None, None, None],
+    ]) {
+        for (words, miss) in HEADERS.into_iter().zip(misses) {
+            let header = Header::try_from(words).expect("the header is legal");
+            assert_eq!(policy.misses(&header, number), Ok(miss), "rule {number}, {header:?}");
+        }
+    }
+    let header = Header::try_from(HEADERS[0]).expect("the header is legal");
+    assert_eq!(policy.misses(&header, 3), Err(Refusal::RuleNotGood { rule: 3 }));
+}
+
+#[test]
+fn the_fields_have_their_numbers_and_names() {
+    let names = ["source", "destination", "source port", "destination port", "protocol"];
+    for (number, (field, name)) in Field::ALL.into_iter().zip(names).enumerate() {
+        assert_eq!((field as usize, field.to_string().as_str()), (number, name));
     }
 }
 

@@ -37,19 +37,20 @@ say-verdict-requires c κs = search needs
 array-share-prefix-nodes : tie.Need-array-share-prefix-nodes
 array-share-prefix-nodes c = serving-fits _ _ _ _ (c .before .who-serves .ensures) .0
 
-slice-aggregate-serve : tie.Need-slice-aggregate-serve
-slice-aggregate-serve c = sym (length-take-le _ _ (serving-fits _ _ _ _ (c .before .before .who-serves .ensures) .0))
+slice-aggregate-answer-input : tie.Need-slice-aggregate-answer-input
+slice-aggregate-answer-input c =
+    sym (length-take-le _ _ (serving-fits _ _ _ _ (c .before .before .who-serves .ensures) .0))
 
 array-share-prefix-pool : tie.Need-array-share-prefix-pool
 array-share-prefix-pool c = serving-fits _ _ _ _ (c .before .before .who-serves .ensures) .1
 
-slice-aggregate-serve-2 : tie.Need-slice-aggregate-serve-2
-slice-aggregate-serve-2 c =
+slice-aggregate-answer-input-2 : tie.Need-slice-aggregate-answer-input-2
+slice-aggregate-answer-input-2 c =
     let w = c .before .before .before in
     sym (length-take-le _ _ (serving-fits _ _ _ _ (w .who-serves .ensures) .1))
 
-serve-requires : tie.Need-serve-requires
-serve-requires c κs =
+answer-input-requires : tie.Need-answer-input-requires
+answer-input-requires c κs =
     let serving = c .before .before .before in
     let taken = serving .before .before .before .before .before in
     let start = taken .before .before .before .before .before .before .before .before .before .before .before in
@@ -76,9 +77,9 @@ answer-spec =
     who-serves-requires
     say-verdict-requires
     array-share-prefix-nodes
-    slice-aggregate-serve
+    slice-aggregate-answer-input
     array-share-prefix-pool
-    slice-aggregate-serve-2
-    serve-requires
+    slice-aggregate-answer-input-2
+    answer-input-requires
     same-length
     returns)

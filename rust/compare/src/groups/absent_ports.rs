@@ -17,7 +17,7 @@ const PURPOSE: &str = "correctness";
 pub const WHOLE: [u32; 2] = [0, LARGEST_END[2]];
 
 /// Ranges that a good rule may have.
-const GOOD: [[u32; 2]; 10] = [
+pub const GOOD: [[u32; 2]; 10] = [
     WHOLE,
     [0, 65_534],
     [1, 65_535],
@@ -52,7 +52,7 @@ const NOT_GOOD: [[u32; 2]; 17] = [
 ];
 
 /// Values of a port field: ports, none, and numbers that are too large.
-const VALUES: [u32; 13] =
+pub const VALUES: [u32; 13] =
     [0, 1, 1_023, 1_024, 40_000, 65_534, 65_535, 65_536, 65_537, 70_000, 131_071, 131_072, u32::MAX];
 
 pub fn run(bench: &mut Bench) -> Run {

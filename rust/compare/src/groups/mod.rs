@@ -18,6 +18,8 @@ mod file_correctness;
 mod file_limits;
 mod file_rooms;
 mod limits;
+mod miss_fields;
+mod miss_numbers;
 mod order;
 mod part_damage;
 mod part_files;
@@ -46,12 +48,16 @@ mod tree_order;
 mod tree_words;
 mod twin_orders;
 mod twins;
+mod why_files;
+mod why_input;
+mod why_words;
 
 use crate::bench::{Bench, Run};
 use crate::trials::Trials;
 
 /// Compares every group in turn: lists, then trees, then the compiler, then the compiler that stops, then files, then
-/// twins, which all of them judge, then actions and the files that hold them, then packets without ports.
+/// twins, which all of them judge, then actions and the files that hold them, then packets without ports, then why a
+/// rule missed.
 pub fn run(bench: &mut Bench) -> Run {
     correctness::run(bench)?;
     limits::run(bench)?;
@@ -93,7 +99,9 @@ pub fn run(bench: &mut Bench) -> Run {
     acl_cases::run(bench)?;
     absent_ports::run(bench)?;
     absent_trees::run(bench)?;
-    absent_builds::run(bench)
+    absent_builds::run(bench)?;
+    miss_fields::run(bench)?;
+    miss_numbers::run(bench)
 }
 
 /// Compares every group of the program's runs in turn.
@@ -103,4 +111,11 @@ pub fn run_program(trials: &mut Trials) -> Run {
     program_drawn::run(trials)?;
     program_acl::run(trials)?;
     program_absent::run(trials)
+}
+
+/// Compares every group of the runs of `why` in turn.
+pub fn run_why(trials: &mut Trials) -> Run {
+    why_input::run(trials)?;
+    why_words::run(trials)?;
+    why_files::run(trials)
 }

@@ -2,6 +2,7 @@
 
 use oracle::rule_file::Kind;
 use oracle::rules::RULE_WORDS;
+use oracle::Answer;
 
 use crate::bench::{Bench, Run};
 use crate::damages::damaged_rules;
@@ -59,6 +60,20 @@ fn compare(bench: &mut Bench, seed: u64, size: usize, faults: Faults, form: usiz
     assert_eq!(first.number, faults.first_of(&[1, 2, 11, 3]), "the oracle: {case}");
     assert_eq!(all.number, faults.first_of(&ORDER), "the oracle: {case}");
     assert_eq!(writer.number, faults.first_of(&[1, 2, 11, 4]), "the oracle: {case}");
+    compare_misses(bench, &case, &words, &header, size as u64, first)
+}
+
+/// The call that says why a rule missed refuses as first-match does, whatever number is asked for. Only where that does
+/// not is a number past the list 2.
+fn compare_misses(bench: &mut Bench, case: &str, words: &[u32], header: &[u32], size: u64, first: Answer) -> Run {
+    for number in [0, size / 2, size - 1, size, u64::MAX] {
+        let answer = bench.rule_misses(case, words, header, number)?;
+        let wanted = match first.number {
+            0 if number >= size => (2, number),
+            _ => (first.number, first.place),
+        };
+        assert_eq!((answer.number, answer.place), wanted, "the oracle: {case}, number {number}");
+    }
     Ok(())
 }
 

@@ -11,7 +11,7 @@ use crate::trees;
 use crate::trials::{Stand, Trials};
 
 /// The most bytes of a file that is read.
-const MOST_BYTES: usize = 65_536;
+pub const MOST_BYTES: usize = 65_536;
 
 pub fn run(trials: &mut Trials) -> Run {
     trials.group("files missing, folders, links to themselves, reading that fails", unreadable)?;
@@ -29,13 +29,13 @@ fn worked() -> [Vec<u8>; 2] {
 /// The worked policy with this in place of its tree.
 fn with_tree(tree: Placed) -> Stand {
     let [rules, _] = worked();
-    Stand { rules: Placed::file(rules), tree }
+    Stand::placed(Placed::file(rules), tree)
 }
 
 /// The worked policy with this in place of its rules.
 fn with_rules(rules: Placed) -> Stand {
     let [_, tree] = worked();
-    Stand { rules, tree: Placed::file(tree) }
+    Stand::placed(rules, Placed::file(tree))
 }
 
 /// The lines that the files' groups send.
@@ -56,7 +56,7 @@ fn unreadable(trials: &mut Trials) -> Run {
         let case = format!("{rules:?}");
         trials.compare(&case, &with_rules(rules.clone()), &input(), Feed::File)?;
         trials.compare(&case, &with_tree(tree.clone()), &input(), Feed::File)?;
-        trials.compare(&case, &Stand { rules, tree }, &input(), Feed::File)?;
+        trials.compare(&case, &Stand::placed(rules, tree), &input(), Feed::File)?;
     }
     Ok(())
 }
@@ -86,7 +86,7 @@ fn cut_trees(trials: &mut Trials) -> Run {
 }
 
 /// The refusal of a text that is cut: 10, with its whole lines.
-fn refused_10(text: &[u8]) -> Vec<u8> {
+pub fn refused_10(text: &[u8]) -> Vec<u8> {
     let lines = text.iter().filter(|&&byte| byte == b'\n').count();
     format!("refused\t10\t{lines}\t0\n").into_bytes()
 }
@@ -142,7 +142,7 @@ fn tree_of_length(length: usize) -> Vec<u8> {
 fn piped_files(trials: &mut Trials) -> Run {
     let [rules, tree] = worked();
     for piece in [1, 7, 64, 1_000] {
-        let stand = Stand { rules: Placed::Pipe(rules.clone(), piece), tree: Placed::Pipe(tree.clone(), piece) };
+        let stand = Stand::placed(Placed::Pipe(rules.clone(), piece), Placed::Pipe(tree.clone(), piece));
         trials.compare("both files whole", &stand, &input(), Feed::File)?;
         let cut = Placed::Pipe(tree[..tree.len() - 1].to_vec(), piece);
         trials.compare("the tree without its last newline", &with_tree(cut), &input(), Feed::File)?;
@@ -167,7 +167,7 @@ fn twins(trials: &mut Trials) -> Run {
         let text = texts::rules_file(size, &rules).bytes;
         let case = format!("rule {later} of {size} is rule {earlier}");
         for tree in files.iter().chain([&Placed::Missing]) {
-            let stand = Stand { rules: Placed::file(&*text), tree: tree.clone() };
+            let stand = Stand::placed(Placed::file(&*text), tree.clone());
             let wrote = trials.compare(&case, &stand, &input(), Feed::File)?;
             assert_eq!(wrote, format!("refused\t11\t{later}\t{earlier}\n").into_bytes(), "the oracle: {case}");
             trials.ends_alone(&case, &stand)?;

@@ -7,9 +7,9 @@ use crate::texts;
 use crate::trials::{Stand, Trials};
 
 /// Lengths of the pieces in which a short input comes.
-const SHORT_PIECES: [usize; 10] = [1, 2, 3, 7, 13, 62, 63, 64, 65, 1_000];
+pub const SHORT_PIECES: [usize; 10] = [1, 2, 3, 7, 13, 62, 63, 64, 65, 1_000];
 /// Lengths of the pieces in which a long input comes.
-const LONG_PIECES: [usize; 8] = [4_095, 4_096, 4_097, 32_768, 65_535, 65_536, 65_537, 1 << 20];
+pub const LONG_PIECES: [usize; 8] = [4_095, 4_096, 4_097, 32_768, 65_535, 65_536, 65_537, 1 << 20];
 
 pub fn run(trials: &mut Trials) -> Run {
     trials.group("input by file, by pipe, in single bytes and in odd pieces", pieces)?;

@@ -4,7 +4,7 @@ use Prim.Native.Nat.{_-_}
 use native.Mathlib.Omega.{arith}
 use lib.ListN.{length}
 use borrow.Author.Needs.{needs}
-use Rattle.console.specs.Judged.{answerBy}
+use Rattle.console.specs.Judged.{answerAsked}
 use Rattle.console.proofs.Feeding.{Reached, reached-first, reached-length, reached-last}
 use Rattle.console.proofs.Passing.{none-of-plain, line-ends}
 use Rattle.console.proofs.LineByLine.{line-last, line-short, line-short-length, line-step}
@@ -12,11 +12,11 @@ use Rattle.console.proofs.feed.feed_by.Statement.{statement}
 use Rattle.console.proofs.feed.feed_by.Tie as tie
 
 abbrev Inv-loop : tie.InvT-loop
-Inv-loop rules nodes pool by piece out₀ gathering₀ filled₀ taken₀ out gathering filled taken =
-    Reached (answerBy by rules nodes pool) gathering₀ piece out₀ gathering filled taken out
+Inv-loop rules nodes pool ask piece out₀ gathering₀ filled₀ taken₀ out gathering filled taken =
+    Reached (answerAsked ask rules nodes pool) gathering₀ piece out₀ gathering filled taken out
 
 abbrev μ-loop : tie.MeasureT-loop
-μ-loop rules nodes pool by piece out₀ gathering₀ filled₀ taken₀ out gathering filled taken = length piece - taken
+μ-loop rules nodes pool ask piece out₀ gathering₀ filled₀ taken₀ out gathering filled taken = length piece - taken
 
 loop-holds : tie.Need-loop-holds Inv-loop μ-loop
 loop-holds c = reached-first _ _ _ _

@@ -1,4 +1,4 @@
--- `console::reply::reply_by` meets its contract: the line is looked at, then the header is searched for.
+-- `console::reply::reply_by` meets its contract: the line is looked at, then what is asked of the header is answered.
 -- Assumes nothing.
 use mathlib.Core.Path.{refl, ap, _∙_}
 use borrow.Author.Needs.{needs}
@@ -28,11 +28,11 @@ returns c =
     let none = none-asked _ _ _ (test .before .before .before .head-in .ensures) (failed refl (test .if1 .taken)) in
     said-same (ap refusedLine (said .before .before .wrong .ensures) ∙ none) (said .refused-line .ensures)
 
-slice-aggregate-answer : tie.Need-slice-aggregate-answer
-slice-aggregate-answer c = search needs
+slice-aggregate-answer-asked : tie.Need-slice-aggregate-answer-asked
+slice-aggregate-answer-asked c = search needs
 
-answer-requires : tie.Need-answer-requires
-answer-requires c κs = search needs
+answer-asked-requires : tie.Need-answer-asked-requires
+answer-asked-requires c κs = search needs
 
 same-length-2 : tie.Need-same-length-2
 same-length-2 c = search needs
@@ -42,7 +42,7 @@ returns-2 c =
     let said = c .before .before in
     let test = said .before .before .before in
     said-same (one-asked _ _ _ (test .before .before .before .head-in .ensures) (held refl (test .if1 .left)))
-    (said .answer .ensures)
+    (said .answer-asked .ensures)
 
 pub reply-by-spec : {M : Type 1} → statement M
 reply-by-spec =
@@ -53,7 +53,7 @@ reply-by-spec =
     refused-line-requires
     same-length
     returns
-    slice-aggregate-answer
-    answer-requires
+    slice-aggregate-answer-asked
+    answer-asked-requires
     same-length-2
     returns-2)

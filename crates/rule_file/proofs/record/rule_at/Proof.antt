@@ -47,10 +47,10 @@ loop-less c = omega arith
 loop-again : tie.Need-loop-again Inv-loop μ-loop
 loop-again c =
     let l = c .before .before in
-    (words-more _ _ _ _ (l .loop .inv .0) (c .before .loop-test .taken) (l .before .pre .1), omega arith)
+    (words-more _ _ _ _ (l .loop .inv .0) (c .before .loop-test .taken) (l .before .pre), omega arith)
 
 returns : tie.Need-returns Inv-loop μ-loop
-returns c = words-all _ _ _ _ (c .before .loop .inv .0) (c .loop-test .left) (c .before .before .pre .1)
+returns c = words-all _ _ _ _ (c .before .loop .inv .0) (c .loop-test .left) (c .before .before .pre)
 
 pub rule-at-spec : {M : Type 1} → statement M
 rule-at-spec =

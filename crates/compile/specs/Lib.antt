@@ -1,2 +1,0 @@
--- The number that an argument of the compiler says.
-pub mod TellsNumber

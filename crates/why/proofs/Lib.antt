@@ -1,0 +1,2 @@
+-- The law of the program: there is room for each answer.
+pub mod Standing

@@ -2,9 +2,8 @@
 use Prim.Native.Nat.{ℕ, _<_}
 use mathlib.Core.Bool.{true}
 use mathlib.Core.Logic.{_↔_}
-use mathlib.Core.Path.{_≡_, refl, sym}
+use mathlib.Core.Path.{_≡_, refl}
 use mathlib.Core.List.{List, [], _∷_}
-use native.Mathlib.Omega.{arith}
 use Rattle.refusals.specs.declared.Refusal.{Refusal}
 use Rattle.refusals.specs.declared.Verdict.the-variants.{Fine}
 use Rattle.refusals.proofs.Promises.{refused-by, fine-by}
@@ -18,8 +17,7 @@ use Rattle.rules.specs.RuleMisses.{RuleCompared}
 use Rattle.rules.proofs.Listing.{listed-iff-matches}
 use Rattle.rules.proofs.Misses.{miss-iff, matches-iff-no-miss}
 use Rattle.rules.proofs.Comparing.{compared-iff, no-rule-iff}
-use Rattle.rule_file.proofs.Pieces.{line-pieces, words-there}
-use Rattle.rule_file.specs.Records.{ruleAt}
+use Rattle.rule_file.proofs.Pieces.{rules-line, acl-line}
 use Rattle.console.specs.Lines.{refusedLine}
 use Rattle.console.specs.MissLines.{missLine, lineOr, missAnswer}
 use Rattle.claims.specs.Misses.{Misses, Why}
@@ -69,14 +67,6 @@ module _ (rs : List ℕ) (n : ℕ) where
       record {
         says = says-line;
         refuses = refuses-line;
-        own-words =
-            λ l.
-            rw (
-              words-there rs n 0 l (omega arith),
-              words-there rs n 1 l (omega arith),
-              words-there rs n 2 l (omega arith),
-              words-there rs n 3 l (omega arith),
-              words-there rs n 4 l (omega arith),
-            )
-            (line-pieces n (ruleAt rs n));
+        own-words = rules-line rs n;
+        with-action = acl-line rs n;
       }

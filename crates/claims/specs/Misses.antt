@@ -9,14 +9,15 @@ use Rattle.refusals.specs.declared.Refusal.{Refusal}
 use Rattle.refusals.specs.declared.Refusal.the-variants.{RuleNotGood}
 use Rattle.fields.specs.Words.{fieldCount}
 use Rattle.rules.specs.declared.miss.Missed.the-variants.{Refused, At}
-use Rattle.rules.specs.Words.{ruleCount}
+use Rattle.rules.specs.Words.{ruleCount, actionOf}
 use Rattle.rules.specs.Matching.{agrees, matches, matching}
 use Rattle.rules.specs.RuleMisses.{RuleCompared}
-use Rattle.text.specs.Words.{tab, ruleWord, ruleMarks}
+use Rattle.text.specs.Words.{tab}
 use Rattle.text.specs.Numbers.{digitsOf}
-use Rattle.text.specs.Line.{printLine}
-use Rattle.rule_file.specs.Records.{ruleValues, ruleAt}
-use Rattle.rule_file.specs.Pieces.{wordsFor}
+use Rattle.rule_file.specs.declared.kind.Kind.the-variants.{Rules, Acl}
+use Rattle.rule_file.specs.ListText.{lineOf}
+use Rattle.rule_file.specs.RuleText.{formatOf}
+use Rattle.rule_file.specs.Pieces.{wordsLine}
 use Rattle.console.specs.Lines.{refusedLine}
 use Rattle.console.specs.MissLines.{missLine, missAnswer}
 
@@ -38,12 +39,10 @@ pub record Misses (rs h : List ℕ) (n : ℕ) : Type 0 where
   pub no-rule : RuleCompared rs h n (Refused (RuleNotGood n)) ↔ (n < ruleCount rs → ⊥)
 
 -- for any words, the reply of the program is the line of what the call says; and the line of a rule in its file is the
--- word `rule`, its number, and then the rule's own words for each field in turn
+-- word `rule`, its number, and then the rule's own words for each field in turn, with the action behind them in a file
+-- with actions
 pub record Why (rs : List ℕ) (n : ℕ) : Type 0 where
   pub says : (h : List ℕ) (f : ℕ) → RuleCompared rs h n (At f) → missAnswer rs n h ≡ missLine rs n f
   pub refuses : (h : List ℕ) (why : Refusal) → RuleCompared rs h n (Refused why) → missAnswer rs n h ≡ refusedLine why
-  pub own-words :
-      n < ruleCount rs →
-      printLine ruleWord ruleMarks (ruleValues n (ruleAt rs n)) ≡
-      ruleWord ++ ((tab ∷ digitsOf n) ++
-      (wordsFor rs n 0 ++ (wordsFor rs n 1 ++ (wordsFor rs n 2 ++ (wordsFor rs n 3 ++ wordsFor rs n 4)))))
+  pub own-words : n < ruleCount rs → lineOf (formatOf Rules) rs n ≡ wordsLine rs n
+  pub with-action : n < ruleCount rs → lineOf (formatOf Acl) rs n ≡ wordsLine rs n ++ (tab ∷ digitsOf (actionOf rs n))

@@ -3,19 +3,23 @@ use Prim.Native.Nat.{ℕ, zero, suc, _+_, _-_, _*_, _^_, _≤_, _<_}
 use native.Mathlib.Omega.{arith}
 use mathlib.Core.Bool.{Bool, true, false}
 use mathlib.Core.List.{List, [], _∷_, _++_, append-nil, append-assoc}
-use mathlib.Core.Path.{_≡_, refl}
-use lib.ListN.{length, getD, drop, length-take}
+use mathlib.Core.Path.{_≡_, refl, ap, _∙_}
+use lib.ListN.{length, getD, take, drop, length-take}
+use lib.Seq.{getD-take, getD-drop}
 use borrow.Author.Tests.{lt-ltb, le-ltb, ltb-true}
 use Rattle.facts.proofs.Cases.{WithinOrOver, within-or-over, atMost, over}
 use Rattle.fields.specs.Words.{fieldCount}
-use Rattle.rules.specs.Words.{ruleWords, ruleCount, ruleThere}
-use Rattle.text.specs.Words.{tab, ruleWord, ruleMarks}
+use Rattle.rules.specs.Words.{ruleWords, matchWords, ruleCount, ruleThere, actionOf}
+use Rattle.text.specs.Words.{tab, ruleWord, ruleMarks, aclMarks}
 use Rattle.text.specs.Numbers.{digitsOf}
 use Rattle.text.specs.Line.{EachUnder, printFields, printLine}
 use Rattle.text.proofs.Below.{below-at, below-drop, below-take, below-of}
 use Rattle.text.proofs.Sizes.{fields-few}
+use Rattle.rule_file.specs.declared.kind.Kind.the-variants.{Rules, Acl}
+use Rattle.rule_file.specs.ListText.{lineOf}
+use Rattle.rule_file.specs.RuleText.{formatOf}
 use Rattle.rule_file.specs.Records.{ruleValues, ruleAt}
-use Rattle.rule_file.specs.Pieces.{places, between, pieceOf, wordsFor}
+use Rattle.rule_file.specs.Pieces.{places, between, pieceOf, wordsFor, wordsLine}
 use Rattle.rule_file.proofs.Records.{values-below}
 
 -- the places rise, by five at most, and there is a separator at each but the last
@@ -63,14 +67,48 @@ module _ (rs : List ℕ) (r f : ℕ) where
       go true e = rw (e, le-ltb f fieldCount h)
       go false e = rw e
 
--- the line of a rule is its front, the word and the rule's number, and then the pieces of the five fields
-pub line-pieces :
-    (n : ℕ) (r : List ℕ) →
-    let piece : ℕ → List ℕ = λ f. pieceOf f (ruleValues n r) in
-    printLine ruleWord ruleMarks (ruleValues n r) ≡
-    ruleWord ++ ((tab ∷ digitsOf n) ++ (piece 0 ++ (piece 1 ++ (piece 2 ++ (piece 3 ++ piece 4)))))
-unfolding printLine printFields pieceOf ruleValues
-line-pieces n r = simp (append-assoc, append-nil)
+module _ (n : ℕ) (r : List ℕ) where
+  abbrev piece : ℕ → List ℕ
+  piece f = pieceOf f (ruleValues n r)
+
+  abbrev pieces : List ℕ
+  pieces = ruleWord ++ ((tab ∷ digitsOf n) ++ (piece 0 ++ (piece 1 ++ (piece 2 ++ (piece 3 ++ piece 4)))))
+
+  rules-pieces : printLine ruleWord ruleMarks (take (length ruleMarks) (ruleValues n r)) ≡ pieces
+  unfolding printLine printFields pieceOf ruleValues
+  rules-pieces = simp (append-assoc, append-nil)
+
+  -- the line with the action is the other, and then the action
+  action-behind :
+      printLine ruleWord aclMarks (take (length aclMarks) (ruleValues n r)) ≡
+      printLine ruleWord ruleMarks (take (length ruleMarks) (ruleValues n r)) ++ (tab ∷ digitsOf (getD r matchWords 0))
+  unfolding printLine printFields ruleValues
+  action-behind = simp (append-assoc, append-nil)
+
+  acl-pieces :
+      printLine ruleWord aclMarks (take (length aclMarks) (ruleValues n r)) ≡
+      pieces ++ (tab ∷ digitsOf (getD r matchWords 0))
+  acl-pieces = action-behind ∙ rw rules-pieces
+
+module _ (rs : List ℕ) (n : ℕ) (h : n < ruleCount rs) where
+  its-pieces : pieces n (ruleAt rs n) ≡ wordsLine rs n
+  its-pieces =
+      let is : (f : ℕ) → f < fieldCount → wordsFor rs n f ≡ pieceOf f (ruleValues n (ruleAt rs n)) =
+      λ f l. words-there rs n f h l in
+      rw (is 0 (omega arith), is 1 (omega arith), is 2 (omega arith), is 3 (omega arith), is 4 (omega arith))
+
+  -- the line of a rule is that in a file without actions
+  pub rules-line : lineOf (formatOf Rules) rs n ≡ wordsLine rs n
+  rules-line = rules-pieces n (ruleAt rs n) ∙ its-pieces
+
+  -- and in one with actions the action stands behind it
+  pub acl-line : lineOf (formatOf Acl) rs n ≡ wordsLine rs n ++ (tab ∷ digitsOf (actionOf rs n))
+  acl-line =
+      let action : getD (ruleAt rs n) matchWords 0 ≡ actionOf rs n =
+      getD-take ruleWords (drop (n * ruleWords) rs) matchWords 0 (omega arith) ∙
+      getD-drop (n * ruleWords) rs matchWords 0 in
+      acl-pieces n (ruleAt rs n) ∙ ap (λ l. l ++ (tab ∷ digitsOf (getD (ruleAt rs n) matchWords 0))) its-pieces ∙
+      ap (λ a. wordsLine rs n ++ (tab ∷ digitsOf a)) action
 
 -- a piece of numbers of 32 bits is short: it has five at most, each behind its separator
 piece-few : (f : ℕ) (vs : List ℕ) → f < fieldCount → EachUnder (2 ^ 32) vs → length (pieceOf f vs) ≤ 55

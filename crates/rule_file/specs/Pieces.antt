@@ -4,14 +4,16 @@
 --   pieceOf f vs        what the line with the numbers vs says of field f: its numbers, each behind its separator
 --   wordsFor rs r f     what the line of rule r says of field f; nothing where the rule is not wholly lent, or there is
 --                       no such field
+--   wordsLine rs r      `rule`, the number r, and then what the line of rule r says of each field in turn
 use Prim.Native.Nat.{ℕ, _+_, _-_}
 use mathlib.Core.Bool.{cond, _&&_}
-use mathlib.Core.List.{List, [], _∷_}
+use mathlib.Core.List.{List, [], _∷_, _++_}
 use lib.ListN.{getD, take, drop}
 use lib.Dec.{ltb}
 use Rattle.fields.specs.Words.{fieldCount}
 use Rattle.rules.specs.Words.{ruleThere}
-use Rattle.text.specs.Words.{ruleMarks}
+use Rattle.text.specs.Words.{tab, ruleWord, ruleMarks}
+use Rattle.text.specs.Numbers.{digitsOf}
 use Rattle.text.specs.Line.{printFields}
 use Rattle.rule_file.specs.Records.{ruleValues, ruleAt}
 
@@ -28,3 +30,8 @@ pieceOf f vs =
 
 unfoldable pub wordsFor : List ℕ → ℕ → ℕ → List ℕ
 wordsFor rs r f = cond (ruleThere rs r && ltb f fieldCount) (pieceOf f (ruleValues r (ruleAt rs r))) []
+
+abbrev pub wordsLine : List ℕ → ℕ → List ℕ
+wordsLine rs r =
+    let words : ℕ → List ℕ = wordsFor rs r in
+    ruleWord ++ ((tab ∷ digitsOf r) ++ (words 0 ++ (words 1 ++ (words 2 ++ (words 3 ++ words 4)))))

@@ -3,14 +3,13 @@
 use Prim.Native.Nat.{ℕ, _≤_, _<_}
 use native.Mathlib.Omega.{arith}
 use mathlib.Core.Bool.{true}
-use mathlib.Core.Path.{_≡_, sym, _∙_}
+use mathlib.Core.Path.{_≡_}
 use mathlib.Core.Logic.{_↔_, _⊎_, inl, inr}
 use mathlib.Core.List.{List}
 use lib.ListN.{length, getD, set}
 use lib.Seq.{getD-set-same, getD-set-other}
 use Rattle.facts.proofs.Cases.{same-or-not}
 use Rattle.fields.specs.Words.{largestPort, absentPort, fieldCount}
-use Rattle.fields.specs.Ports.{wholePorts, portsMatch}
 use Rattle.fields.proofs.Ranges.{holds-iff-between}
 use Rattle.fields.proofs.Ports.{absent-matches, present-matches, whole-iff}
 use Rattle.fields.specs.declared.field.Field.the-variants.{Ports}

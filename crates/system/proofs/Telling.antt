@@ -13,7 +13,6 @@ use Rattle.text.specs.Words.{oneTab}
 use Rattle.text.specs.Line.{readLine}
 use Rattle.text.specs.Cursors.{cursorAt, wholeAt}
 use Rattle.text.proofs.LineViews.{held-by, number-at}
-use Rattle.system.specs.declared.arguments.Told.{Told}
 use Rattle.system.specs.declared.arguments.Told.the-variants.{Wrong, Number}
 use Rattle.system.specs.TellsNumber.{numberIn}
 

@@ -8,6 +8,10 @@
 --   PieceAnswered answer g bs r    the piece bs is answered from the state g on, and r goes on from the state after it;
 --                      or a reply was not written; or there was no room for one, and then not all answers are short
 --   GotAnswered answer g got piece r    what a read gave, in front of the piece, is answered
+--   SomeAnswered answer g r    what some read gave is answered so
+--   Reached answer told t    the turn t is reached from the first one, read after read, as long as more is to be read
+--   LinesAnswered answer told r    such a turn was reached; and r, whether all that was due was written, is false where
+--                      what comes before could not be told
 --   dueAtEnd t         what is replied at the end of input, after the turn t
 use Prim.Native.Nat.{ℕ, _≤_}
 use mathlib.Core.Bool.{Bool, true, false, cond}
@@ -58,6 +62,21 @@ ByGot answer g (Bytes n) piece r = PieceAnswered answer g (take n piece) r
 pub record GotAnswered
     (answer : List ℕ → List ℕ) (g : Gathering) (got : Got) (piece : List ℕ) (r : Turn) : Type 0 where
   pub says : ByGot answer g got piece r
+
+pub record SomeAnswered (answer : List ℕ → List ℕ) (g : Gathering) (r : Turn) : Type 0 where
+  pub got : Got
+  pub piece : List ℕ
+  pub answered : GotAnswered answer g got piece r
+
+pub data Reached (answer : List ℕ → List ℕ) (told : Bool) : Turn → Type 0 where
+  first : (t : Turn) → t ≡ firstTurn told → Reached answer told t
+  next :
+      (s t : Turn) → Reached answer told s → s .more ≡ true → SomeAnswered answer (s .gathering) t → Reached answer told t
+
+pub record LinesAnswered (answer : List ℕ → List ℕ) (told r : Bool) : Type 0 where
+  pub last : Turn
+  pub reached : Reached answer told last
+  pub untold : told ≡ false → r ≡ false
 
 -- at the end of input the last part is replied to, unless a reply before it was not written
 abbrev pub dueAtEnd : Turn → List ℕ

@@ -9,14 +9,16 @@ use console::feed::feed_why;
 use console::gather::Gathering;
 use libc::STDIN_FILENO;
 ghost use Prim.Native.Nat.{_≤_};
-ghost use mathlib.Core.Bool.{false};
+ghost use mathlib.Core.Bool.{true};
 ghost use mathlib.Core.Path.{_≡_};
 ghost use lib.ListN.{length};
 ghost use Rattle.console.specs.Lines.{mostReply};
+ghost use Rattle.console.specs.Replies.{answerTo};
+ghost use Rattle.console.specs.MissLines.{missAnswer};
 ghost use Rattle.console.specs.Feeding.{IsFed};
 ghost use Rattle.system.specs.Reads.{Gets};
 ghost use Rattle.system.specs.Turns.{answerFor, moreToRead, inputEnded, outputFailed, firstTurn};
-ghost use Rattle.system.specs.Turns.{PieceAnswered, GotAnswered};
+ghost use Rattle.system.specs.Turns.{PieceAnswered, GotAnswered, SomeAnswered, LinesAnswered};
 
 // The bytes that are read at once at most, and the bytes of replies that are written at once at most.
 const PIECE: usize = 65536;
@@ -37,13 +39,16 @@ pub(crate) struct Turn {
 // Answers which rules match, by the tree if it was accepted. It does not begin where what comes before, the refusal of
 // the tree, could not be told. It answers whether all that was due was written.
 pub fn serve(rules: &[u32], nodes: &[u32], pool: &[u32], accepted: bool, told: bool) -> bool
-    ensures { λ r. ⌜ (told ≡ false → r ≡ false) ⌝ }
+    ensures { λ r. ⌜ LinesAnswered (answerTo accepted (now (rules .entry)) (now (nodes .entry)) (now (pool .entry)))
+        told r ⌝ }
 {
     answer_lines(rules, nodes, pool, Asked::Matches { accepted }, told)
 }
 
 // Answers why rule `rule` misses. It answers whether all that was due was written.
-pub fn serve_why(rules: &[u32], rule: usize) -> bool {
+pub fn serve_why(rules: &[u32], rule: usize) -> bool
+    ensures { λ r. ⌜ LinesAnswered (missAnswer (now (rules .entry)) rule) true r ⌝ }
+{
     answer_lines(
         rules,
         &rules[..0],
@@ -56,7 +61,8 @@ pub fn serve_why(rules: &[u32], rule: usize) -> bool {
 // Answers standard input to its end, and then the part that has no newline. Output that cannot be written stops it.
 // Nothing proves that input ends, so the reads are counted down, from a number that no run uses up.
 fn answer_lines(rules: &[u32], nodes: &[u32], pool: &[u32], asked: Asked, told: bool) -> bool
-    ensures { λ r. ⌜ (told ≡ false → r ≡ false) ⌝ }
+    ensures { λ r. ⌜ LinesAnswered (answerFor asked (now (rules .entry)) (now (nodes .entry)) (now (pool .entry)))
+        told r ⌝ }
 {
     let mut piece = [0u8; PIECE];
     let mut out = [0u8; PIECE];
@@ -83,6 +89,8 @@ fn answer_some(
     out: &mut [u8],
 ) -> Turn
     requires { ⌜ mostReply ≤ length (now out) ⌝ }
+    ensures { λ r. ⌜ SomeAnswered (answerFor asked (now (rules .entry)) (now (nodes .entry)) (now (pool .entry)))
+        (turn .gathering) r ⌝ }
 {
     let got = read_some(STDIN_FILENO, piece);
     answer_got(rules, nodes, pool, asked, turn, got, piece, out)

@@ -15,9 +15,11 @@ use system::serve::serve;
 use trees::words::MOST_NODES;
 use trees::words::MOST_POOL;
 use trees::words::NODE_WORDS;
-ghost use mathlib.Core.Bool.{true, false};
+ghost use mathlib.Core.Bool.{true};
 ghost use mathlib.Core.Path.{_≡_};
+ghost use Rattle.console.specs.Replies.{answerTo};
 ghost use Rattle.policy.specs.Files.{ListOfFile};
+ghost use Rattle.system.specs.Turns.{LinesAnswered};
 ghost use Rattle.wickorchard.specs.Handed.{AnswersAsList};
 
 const TREE_FILE: [u8; 8] = *b"tree.txt";
@@ -60,7 +62,8 @@ fn answer(buffer: &mut [u8], rules: &[u32])
 fn answer_input(rules: &[u32], nodes: &[u32], pool: &[u32], accepted: bool, told: bool) -> bool
     requires { ⌜ AnswersAsList (now rules) (now nodes) (now pool) accepted ⌝ }
     requires { ⌜ (accepted ≡ true → told ≡ true) ⌝ }
-    ensures { λ r. ⌜ (told ≡ false → r ≡ false) ⌝ }
+    ensures { λ r. ⌜ LinesAnswered (answerTo accepted (now (rules .entry)) (now (nodes .entry)) (now (pool .entry)))
+        told r ⌝ }
 {
     serve(rules, nodes, pool, accepted, told)
 }

@@ -1,4 +1,5 @@
--- `why::answer` is safe; what it hands on is the list of a file, and there is room for each answer. Assumes nothing.
+-- `why::answer` is safe; what it hands on is the list of a file and the rule that was asked for, and there is room for
+-- each answer. Assumes nothing.
 use native.Mathlib.Omega.{arith}
 use mathlib.Core.Path.{sym}
 use lib.Seq.{length-take-le}
@@ -51,7 +52,8 @@ answer-input-requires c κs =
     let w = c .before .before in
     let v = w .before .before .before in
     let list = list-handed _ (v .take-list .ensures) (w .words .given .1) .0 in
-    (list, why-short _ _ list (omega arith))
+    let start = v .before .before .before .before .before .before .before in
+    (start .pre, (list, why-short _ _ list (omega arith)))
 
 returns : tie.Need-returns
 returns c = search needs

@@ -1,5 +1,5 @@
--- The lowest field of a rule that disagrees with a header: what it is, and that a rule matches exactly where every field
--- agrees.
+-- The lowest field of a rule that disagrees with a header: what it is, and that a rule matches exactly where every
+-- field agrees.
 use Prim.Native.Nat.{ℕ, _≤_, _<_}
 use mathlib.Core.Bool.{true, false, not}
 use mathlib.Core.Path.{_≡_, ap}

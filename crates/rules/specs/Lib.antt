@@ -1,5 +1,5 @@
--- Lists of rules, twins among them, the ends of their fields, and the promises of the rule check, of the line search and
--- of the call that says why a rule missed.
+-- Lists of rules, twins among them, the ends of their fields, and the promises of the rule check, of the line search
+-- and of the call that says why a rule missed.
 pub mod Words
 pub mod Twins
 pub mod Good

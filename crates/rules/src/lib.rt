@@ -5,8 +5,8 @@
 //   line::line_first      the lowest number that matches a header, and its action: 1, 2, 11, 3
 //   line::scan_all        as line_all, but the list is not judged: 3, 4
 //   line::scan_first      as line_first, but the list is not judged: 3
-//   miss::rule_misses     the lowest field of a rule that disagrees with a header, or the number of fields: 1, 2, 11, 3,
-//                         2
+//   miss::rule_misses     the lowest field of a rule that disagrees with a header, or the number of fields: 1, 2, 11,
+//                         3, 2
 //   check::list_verdict   what rule_check refuses, for the calls that take a list
 //   check::verdict_to     the same where actions may not be over a number
 //   check::rule_good      whether a rule is there and good

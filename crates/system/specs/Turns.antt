@@ -71,7 +71,8 @@ pub record SomeAnswered (answer : List ℕ → List ℕ) (g : Gathering) (r : Tu
 pub data Reached (answer : List ℕ → List ℕ) (told : Bool) : Turn → Type 0 where
   first : (t : Turn) → t ≡ firstTurn told → Reached answer told t
   next :
-      (s t : Turn) → Reached answer told s → s .more ≡ true → SomeAnswered answer (s .gathering) t → Reached answer told t
+      (s t : Turn) → Reached answer told s → s .more ≡ true → SomeAnswered answer (s .gathering) t →
+      Reached answer told t
 
 pub record LinesAnswered (answer : List ℕ → List ℕ) (told r : Bool) : Type 0 where
   pub last : Turn

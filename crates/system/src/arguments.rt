@@ -4,7 +4,7 @@ use text::cursor::Step;
 use text::words::ONE_TAB;
 use text::words::TAB;
 ghost use mathlib.Core.Path.{_≡_};
-ghost use Rattle.system.specs.TellsNumber.{numberIn};
+ghost use Rattle.system.specs.TellsNumber.{numberIn, TellsNumber};
 
 // A tab, and a number of 32 bits, which has at most ten digits.
 const MOST_LINE: usize = 11;
@@ -16,7 +16,9 @@ pub enum Told {
 }
 
 // The number that the first argument says. An argument that is too long counts as none.
-pub fn number_told() -> Told {
+pub fn number_told() -> Told
+    ensures { λ r. ⌜ TellsNumber r ⌝ }
+{
     let mut line = [TAB; MOST_LINE];
     let n = os::arg(1, &mut line[1..]);
     let end = n + 1;

@@ -1,4 +1,4 @@
--- `system::arguments::number_told` is safe: the argument stands behind the tab. Assumes nothing.
+-- `system::arguments::number_told` meets its contract: the argument stands behind the tab. Assumes nothing.
 use native.Mathlib.Omega.{arith}
 use mathlib.Core.Path.{sym}
 use lib.ListN.{length-append}
@@ -33,7 +33,7 @@ number-in-requires : tie.Need-number-in-requires
 number-in-requires c κs = search needs
 
 returns : tie.Need-returns
-returns c = search needs
+returns c = record { line = _; tells = c .number-in .ensures }
 
 pub number-told-spec : {M : Type 1} → statement M
 number-told-spec =

@@ -31,5 +31,6 @@ pub mod StepCalls
 pub mod StopCalls
 pub mod Reaching
 pub mod PartCalls
+pub mod ShortSteps
 pub mod Calls
 pub mod Unique

@@ -1,31 +1,25 @@
 -- What comes out of anyone's part: what is whole may serve and begins with the part's own nodes; what is stopped may be
--- gone on with, to the same tree; and a part that is taken is refused only with 4, at the first node that does not fit.
-use Prim.Native.Nat.{ℕ, _+_, _*_, min}
+-- gone on with, to the same tree.
+use Prim.Native.Nat.{ℕ, _+_, _*_}
 use native.Mathlib.Omega.{arith}
-use mathlib.Core.Path.{_≡_, refl, sym, _∙_}
+use mathlib.Core.Path.{_≡_, sym, _∙_}
 use mathlib.Core.List.{List}
 use lib.ListN.{length, take}
 use Rattle.refusals.specs.declared.Refusal.{Refusal}
 use Rattle.refusals.specs.declared.Verdict.the-variants as verdict
-use Rattle.refusals.proofs.Order.{then-fine}
 use Rattle.rules.specs.Words.{ruleCount}
-use Rattle.trees.specs.Words.{nodeWords, mostNodes, mostPool, nodeCount}
+use Rattle.trees.specs.Words.{nodeWords, nodeCount}
 use Rattle.tree_check.specs.Serves.{Serves}
 use Rattle.tree_check.specs.PartCheck.{soFarVerdict}
 use Rattle.tree_check.proofs.PartStages.{part-taken}
 use Rattle.built.specs.Boxes.{boxesOf}
 use Rattle.built.specs.Trees.{Tree}
-use Rattle.built.specs.Layout.{pooled, laid}
 use Rattle.built.specs.GrownOn.{treeOn}
 use Rattle.built.specs.Stops.{upTo, stopNodes, stopPool}
-use Rattle.built.specs.BuiltTree.{treeFits}
-use Rattle.built.specs.FirstUnfit.{FirstUnfit}
 use Rattle.built.proofs.FullTrees.{full-some}
 use Rattle.built.proofs.Stopping.{up-to-some}
-use Rattle.built.proofs.StopLies.{stop-lies}
-use Rattle.built.proofs.Covering.{covers-full, covers-up-to}
+use Rattle.built.proofs.Covering.{covers-full}
 use Rattle.built.proofs.Accepting.{fit-sizes, covers-serves}
-use Rattle.built.proofs.FirstUnfit.{fits-refused-iff}
 use Rattle.built.proofs.StopTaken.{stop-taken}
 use Rattle.built.proofs.StopLaws.{stop-nodes, stop-pool}
 use Rattle.built.proofs.FromStop.{on-again}
@@ -33,7 +27,7 @@ use Rattle.built.proofs.PartTaken.{part-covers, part-within, part-kept}
 use Rattle.builder.specs.declared.step.Step.the-variants.{Refused, Whole, Stopped}
 use Rattle.builder.specs.Build.{atLeastOne, OnBuilt}
 use Rattle.builder.proofs.BuildAnswers.{step-refuses}
-use Rattle.builder.proofs.StepCalls.{stands-front, step-whole, step-stopped, step-refused}
+use Rattle.builder.proofs.StepCalls.{stands-front, step-whole, step-stopped}
 use Rattle.builder.proofs.StopCalls.{at-least-one}
 
 module _ (rs : List ℕ) (n : ℕ) (part kept : List ℕ) (most : ℕ) where
@@ -94,16 +88,3 @@ module _ (rs : List ℕ) (n : ℕ) (part kept : List ℕ) (most : ℕ) where
           rw (front .0, front .1) (stop-taken rs tree c end list sizes),
           rw (front .0, front .1) (on-again (boxesOf rs) part kept end (omega arith) (omega arith)),
         )
-
-    -- a part that is taken is refused only with 4, for the first node before the stop that does not fit
-    pub part-short :
-        {why : Refusal} → soFarVerdict rs n part kept ≡ verdict.Fine →
-        OnBuilt rs n part kept most nodes pool (Refused why) nodes′ pool′ →
-        FirstUnfit
-        (laid (upTo (nodeCount part + atLeastOne most) (treeOn (boxesOf rs) part kept) 0) 0 0)
-        (min (length nodes) (mostNodes * nodeWords)) (min (length pool) mostPool) why
-    part-short {why} q w =
-        let u = step-refused (soFarVerdict rs n part kept) end tree w in
-        let c = part-covers rs n part kept q in
-        fits-refused-iff rs (upTo end tree 0) (covers-up-to end c 0) (stop-lies end (covers-full c)) _ _ why .0
-        (sym (then-fine (treeFits (upTo end tree 0) (length nodes) (length pool)) q) ∙ u .0)

@@ -10,6 +10,7 @@ pub mod Stopping
 pub mod PartWords
 pub mod Lying
 pub mod FullTrees
+pub mod PartedBoxes
 pub mod StopLies
 pub mod SameWords
 pub mod Fitting

@@ -1,33 +1,24 @@
 -- Demand 2 holds.
 use Prim.Native.Nat.{ℕ}
-use native.Mathlib.Omega.{arith}
-use mathlib.Core.Path.{_≡_, ap}
+use mathlib.Core.Path.{refl}
 use mathlib.Core.List.{List, _++_}
 use Rattle.rules.proofs.EqualWords.{same-iff}
 use Rattle.rules.proofs.Lists.{fine-iff-apart, eleven-iff, eleven-at-iff}
 use Rattle.rules.proofs.Meaning.{matches-iff-inside}
-use Rattle.rules.proofs.Listing.{listed-iff-matches, matching-rises, first-is-lowest}
-use Rattle.rules.proofs.Searches.{scanned-of-good}
+use Rattle.rules.proofs.Found.{line-all-found, line-first-found, line-none-found}
+use Rattle.rules.proofs.Found.{scan-all-found, scan-first-found, scan-none-found, scan-counts}
 use Rattle.tree_check.specs.Serves.{Serves}
 use Rattle.tree_check.proofs.Accepts.{accepts-iff-serves}
-use Rattle.tree_check.proofs.Searches.{refuses-none, same-list, same-verdict, same-words, same-first}
-use Rattle.text.specs.Words.{treeWord, partWord}
-use Rattle.text.specs.Text.{Reading, good, refused}
+use Rattle.tree_check.proofs.Searches.{same-verdict, same-words, same-first}
+use Rattle.tree_check.proofs.Found.{tree-all-found, tree-first-found, tree-none-found}
 use Rattle.text.proofs.Plain.{Plain}
-use Rattle.rule_file.specs.declared.kind.Kind.{Kind}
-use Rattle.rule_file.specs.Kinds.{kindOf}
-use Rattle.rule_file.specs.RuleText.{rulesIn}
 use Rattle.rule_file.proofs.ReadTwins.{read-eleven-iff}
-use Rattle.rule_file.proofs.RoundTrips.{read-of-written as rules-back, written-of-read as rules-exact, fine-of-read}
-use Rattle.rule_file.proofs.RoundTrips.{below-of-read as rules-below, cut-refused as rules-cut, kind-of-lines}
-use Rattle.tree_file.specs.TreeText.{Tree, tree, fileIn}
-use Rattle.tree_file.specs.TreeLines.{fileTextOf, Fits}
-use Rattle.tree_file.proofs.RoundTrips.{read-of-written as tree-back, written-of-read as tree-exact}
-use Rattle.tree_file.proofs.RoundTrips.{spelling-of-read, below-of-read, cut-refused as tree-cut}
-use Rattle.tree_file.proofs.RoundTrips.{tree-plain, part-plain}
+use Rattle.rule_file.proofs.RoundTrips.{kind-of-lines}
+use Rattle.rule_file.proofs.Calls as rules
 use Rattle.tree_file.proofs.FirstWords.{tree-not-part, part-not-tree}
-use Rattle.claims.specs.Demand2.{Twins, Matching, ByTree, File, ListFile, kindAnd, RuleFile, RuleKind}
-use Rattle.claims.specs.Demand2.{TreeFile, PartFile, TreeOrPart}
+use Rattle.tree_file.proofs.Calls as trees
+use Rattle.claims.specs.Demand2.{Twins, Matching, ByTree}
+use Rattle.claims.specs.Files.{RuleFile, RuleKind, TreeFile, TreeOrPart}
 
 pub twins-claim : Twins
 twins-claim =
@@ -42,10 +33,13 @@ twins-claim =
 pub matching-claim : Matching
 matching-claim =
     record {
-      listed = listed-iff-matches;
-      rising = matching-rises;
-      lowest = λ rs h r rest e q l. first-is-lowest rs h r rest e .none-before q l;
-      scan = scanned-of-good;
+      line-all = line-all-found;
+      line-first = line-first-found;
+      line-none = line-none-found;
+      scan-all = scan-all-found;
+      scan-first = scan-first-found;
+      scan-none = scan-none-found;
+      scan-counts = scan-counts;
       box = λ rs r g h. matches-iff-inside rs r g h;
     }
 
@@ -55,53 +49,33 @@ by-tree-claim rs ns es s =
     record {
       refuses = same-verdict rs ns es ok;
       leaves = same-words rs ns es ok;
-      first = same-first rs ns es ok;
-      completes = refuses-none rs ns es ok;
-      lists = same-list rs ns es ok;
+      same-first = same-first rs ns es ok;
+      all = tree-all-found rs ns es s;
+      first = tree-first-found rs ns es s;
+      none = tree-none-found rs ns es s;
     }
-
--- ---- the list file, of either kind
-
-kind-and :
-    (k : Kind) (a : Reading (List ℕ)) (w : ListFile) → kindAnd k a ≡ good w → (k ≡ w .0) × (a ≡ good (w .1))
-kind-and k (good ws) w e =
-    let q : (k, ws) ≡ w = cc in
-    (ap (λ (x : ListFile). x .0) q, ap (λ (x : ListFile). good (x .1)) q)
-kind-and k (refused why) w e = let z : _≡_ {A = ℕ} 0 1 = cc in absurd (omega arith)
 
 pub rule-file-claim : RuleFile
 rule-file-claim =
     record {
-      back = λ w f. let t = rules-back (w .0) (w .1) (f .0) (f .1) in rw (t .0, t .1);
-      exact = λ s w e.
-          let t = kind-and (kindOf s) (rulesIn s) w e in (
-            rw (← t .0) (rules-exact s (w .1) (t .1)),
-            (rw (← t .0) (fine-of-read s (w .1) (t .1)), rules-below s (w .1) (t .1)),
-          );
-      cut = λ p q w e more.
-          let t = kind-and (kindOf (p ++ q)) (rulesIn (p ++ q)) w e in rw (rules-cut p q (w .1) (t .1) more);
+      writes = rules.fit-written;
+      reads-back = λ k ws v w x y n r p under room q. rules.reads-back k ws p under room q;
+      writes-back = λ k s v w x y n t r room q. rules.writes-back s r room q;
+      cut-short = λ k p q v w x y n t r more d. rules.cut-short (p ++ q) r p q refl more d;
     }
 
 pub rule-kind-claim : RuleKind
 rule-kind-claim = kind-of-lines
 
--- ---- the tree file and the part file, whatever the first word
-
-file-exact : (word s : List ℕ) (t : Tree) → fileIn word s ≡ good t → (fileTextOf word t ≡ s) × Fits t
-file-exact word s (tree n ns es) e =
-    (tree-exact word s n ns es e, (spelling-of-read word s n ns es e, below-of-read word s n ns es e))
-
-file-back : (word : List ℕ) → Plain word → (t : Tree) → Fits t → fileIn word (fileTextOf word t) ≡ good t
-file-back word plain (tree n ns es) f = tree-back word plain (f .0) (f .1)
-
-file-claim : (word : List ℕ) → Plain word → File (fileIn word) (fileTextOf word) Fits
-file-claim word plain = record { back = file-back word plain; exact = file-exact word; cut = tree-cut word }
-
-pub tree-file-claim : TreeFile
-tree-file-claim = file-claim treeWord tree-plain
-
-pub part-file-claim : PartFile
-part-file-claim = file-claim partWord part-plain
+pub tree-file-claim : (word : List ℕ) → Plain word → TreeFile word
+tree-file-claim word plain =
+    record {
+      writes = trees.fit-written word;
+      reads-back =
+          λ n m ns es v w a b x y r p under room more q. trees.reads-back word n ns es p plain under room more q;
+      writes-back = λ n m p s a b c d x y t r room q. trees.writes-back word s r room q;
+      cut-short = λ n m p u v a b c d e f x y t r more q. trees.cut-short word (u ++ v) r u v refl more q;
+    }
 
 pub tree-or-part-claim : TreeOrPart
 tree-or-part-claim = record { tree-only = tree-not-part; part-only = part-not-tree }

@@ -4,6 +4,7 @@ use Rattle.tree_check.proofs.Stages.{lack-decides}
 use Rattle.tree_check.proofs.Eight.{eight-iff, eight-at-iff}
 use Rattle.tree_check.proofs.Answers.{refused-iff, accepted-says, accepted-means}
 use Rattle.tree_check.proofs.Answering.{accepted-answers}
+use Rattle.tree_check.proofs.LeafFigures.{accepted-leaves}
 use Rattle.tree_check.proofs.Malformed.{malformed-iff}
 use Rattle.claims.specs.Demand3.{TreeCheck}
 
@@ -26,4 +27,5 @@ tree-check-claim =
       );
       malformed = malformed-iff;
       searches = λ rs ns es c l p. accepted-answers rs ns es p;
+      leaves = accepted-leaves;
     }

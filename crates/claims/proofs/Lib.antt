@@ -9,5 +9,6 @@ pub mod Parts
 pub mod Compiler
 pub mod Stops
 pub mod Worked
+pub mod Numbers
 pub mod Beyond
 pub mod Claims

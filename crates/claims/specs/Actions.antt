@@ -5,21 +5,16 @@ use mathlib.Core.Logic.{_↔_}
 use mathlib.Core.Path.{_≡_}
 use mathlib.Core.List.{List}
 use Rattle.refusals.specs.declared.Verdict.the-variants.{Fine}
-use Rattle.rules.specs.declared.line.First.the-variants as line
 use Rattle.rules.specs.Words.{matchWords, ruleCount, wordOf, actionOf, largestAction}
 use Rattle.rules.specs.Good.{good, listVerdictTo, listVerdict}
 use Rattle.rules.specs.Matching.{matches}
-use Rattle.rules.specs.LineFirst.{LineFirstSearched}
-use Rattle.rules.specs.Scan.{ScanFirstSearched}
 use Rattle.trees.specs.declared.search.TreeFirst.the-variants as tree
 use Rattle.trees.specs.TreeFirst.{TreeFirstSearched}
 
--- a first match, by the list, by a scan or by any tree, says the action of the rule that it names, as it stands; a good
--- rule's is at most the largest; rules with the same words match alike, whatever their actions; and a list is fine
--- with small actions exactly where it is fine and its actions are that small
+-- a first match by any tree says the action of the rule that it names, as it stands (by the list or by a scan it does
+-- too: `FirstMatch`); a good rule's is at most the largest; rules with the same words match alike, whatever their
+-- actions; and a list is fine with small actions exactly where it is fine and its actions are that small
 pub record Actions : Type 0 where
-  pub by-list : (rs h : List ℕ) (n a : ℕ) → LineFirstSearched rs h (line.Rule n a) → a ≡ actionOf rs n
-  pub by-scan : (rs h : List ℕ) (n a : ℕ) → ScanFirstSearched rs h (line.Rule n a) → a ≡ actionOf rs n
   pub by-tree :
       (rs ns es h : List ℕ) (n a v k : ℕ) → TreeFirstSearched rs ns es h (tree.Rule n a v k) →
       a ≡ actionOf rs n

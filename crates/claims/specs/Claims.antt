@@ -6,8 +6,11 @@ use Rattle.refusals.specs.declared.Verdict.the-variants.{Fine}
 use Rattle.fields.specs.Headers.{Legal}
 use Rattle.rules.specs.Good.{listVerdict}
 use Rattle.tree_check.specs.Serves.{Serves}
-use Rattle.claims.specs.Demand1.{Code, Calls}
-use Rattle.claims.specs.Demand2.{Twins, Matching, ByTree, RuleFile, RuleKind, TreeFile, PartFile, TreeOrPart}
+use Rattle.text.specs.Words.{treeWord, partWord}
+use Rattle.claims.specs.Code.{Code}
+use Rattle.claims.specs.Demand1.{Calls}
+use Rattle.claims.specs.Demand2.{Twins, Matching, ByTree}
+use Rattle.claims.specs.Files.{RuleFile, RuleKind, TreeFile, TreeOrPart}
 use Rattle.claims.specs.Absent.{Absent}
 use Rattle.claims.specs.Actions.{Actions}
 use Rattle.claims.specs.Misses.{ByFields, Misses, Why}
@@ -16,6 +19,7 @@ use Rattle.claims.specs.Parts.{PartCheck}
 use Rattle.claims.specs.Compiler.{Compiler}
 use Rattle.claims.specs.Stops.{Stopping, Others}
 use Rattle.claims.specs.Worked.{AllHold, table}
+use Rattle.claims.specs.Numbers.{Numbers}
 use Rattle.claims.specs.Beyond.{Program}
 
 pub record Claims : Type 2 where
@@ -31,8 +35,8 @@ pub record Claims : Type 2 where
   pub by-tree : (rs ns es : List ℕ) → Serves rs ns es → ByTree rs ns es
   pub rule-file : RuleFile
   pub rule-kind : RuleKind
-  pub tree-file : TreeFile
-  pub part-file : PartFile
+  pub tree-file : TreeFile treeWord
+  pub part-file : TreeFile partWord
   pub tree-or-part : TreeOrPart
   pub tree-check : TreeCheck
   pub part-check : PartCheck
@@ -40,4 +44,5 @@ pub record Claims : Type 2 where
   pub stopping : Stopping
   pub others : Others
   pub worked : AllHold table
+  pub numbers : Numbers
   pub program : Program

@@ -1,5 +1,5 @@
 -- Demand 3: when the check accepts a tree, when it says 8, and when 6 or 7; and that its two figures bound every search
--- and are met. For any list, nodes and pool. Statements only.
+-- and every leaf, and are met. For any list, nodes and pool. Statements only.
 use Prim.Native.Nat.{ℕ}
 use mathlib.Core.Path.{_≡_}
 use mathlib.Core.Logic.{_↔_, _⊎_}
@@ -34,3 +34,6 @@ pub record TreeCheck : Type 0 where
   -- visits more than c + 1 nodes or compares more than l entries; and all-match of some header meets each figure
   pub searches :
       (rs ns es : List ℕ) (c l : ℕ) → TreeChecked rs ns es (Accepted c l) → check.Answering.Answering rs ns es c l
+  -- and the figures are the most cuts above a leaf, and the most entries of one
+  pub leaves :
+      (rs ns es : List ℕ) (c l : ℕ) → TreeChecked rs ns es (Accepted c l) → check.Figures.LeafFigures ns es c l

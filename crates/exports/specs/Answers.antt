@@ -7,12 +7,16 @@
 --   inTwoWords       those of one by the list, which has no counts: 0 stands for each
 --   InWords words paper P answer    the promise of every C function: the answer is, in eight words, an answer that the
 --                    promise P of its Rattle call allows; there is one such answer
+--   Tells words paper P Q      Q is the promise of a C function that writes nothing, P that of its Rattle call: what P
+--                    allows Q allows in eight words, and two answers that Q allows are equal
+--   TellsOne, TellsBoth        the same of one with one lent output, and with two, whose states are then equal too
 --   MatchFits        the number of a first match has room for one more
 use Prim.Native.Nat.{ℕ, _+_, _<_, _^_}
 use mathlib.Core.Path.{_≡_}
 use mathlib.Core.List.{List, [], _∷_, _++_}
 use lib.ListN.{getD, take, drop, replicate}
 use Rattle.refusals.specs.Paper.{Paper, refusal, success}
+use Rattle.refusals.specs.Promises.{Fixes}
 use Rattle.rules.specs.declared.line.First.{First}
 use Rattle.rules.specs.declared.line.First.the-variants.{Refused, Rule, NoRule}
 
@@ -48,6 +52,22 @@ pub record InWords {R : Type 0} (words : List ℕ → List ℕ) (paper : R → P
   pub said : R
   pub promised : P said
   pub answers : answer ≡ asEight words (paper said)
+
+abbrev pub Tells : {R : Type 0} → (List ℕ → List ℕ) → (R → Paper) → (R → Type 0) → (List ℕ → Type 0) → Type 0
+Tells {R} words paper P Q = ((r : R) → P r → Q (asEight words (paper r))) × Fixes Q
+
+abbrev pub TellsOne :
+    {R : Type 0} → (List ℕ → List ℕ) → (R → Paper) → (R → List ℕ → Type 0) → (List ℕ → List ℕ → Type 0) → Type 0
+TellsOne {R} words paper P Q =
+    ((r : R) (v : List ℕ) → P r v → Q v (asEight words (paper r))) ×
+    ((v w answer other : List ℕ) → Q v answer → Q w other → (answer ≡ other) × (v ≡ w))
+
+abbrev pub TellsBoth :
+    {R : Type 0} → (List ℕ → List ℕ) → (R → Paper) → (R → List ℕ → List ℕ → Type 0) →
+    (List ℕ → List ℕ → List ℕ → Type 0) → Type 0
+TellsBoth {R} words paper P Q =
+    ((r : R) (v x : List ℕ) → P r v x → Q v x (asEight words (paper r))) ×
+    ((v w x y answer other : List ℕ) → Q v x answer → Q w y other → (answer ≡ other) × (v ≡ w) × (x ≡ y))
 
 unfoldable pub MatchFits : First → Type 0
 MatchFits (Refused why) = Unit {0}

@@ -31,6 +31,15 @@ use Rattle.rule_file.proofs.RoundTrips.{good-of-read, cut-refused}
 use Rattle.rule_file.proofs.ReadAnswers.{read-apart}
 use Rattle.rule_file.proofs.KindOf.{kinds-apart}
 
+-- ---- the writer
+
+-- a list that is fine for the kind is written where there is room for its text
+pub fit-written :
+    (k : Kind) (ws before after : List ℕ) (t : Written) → listVerdictTo (mostAction k) ws ≡ verdict.Fine →
+    length (textOf k ws) ≤ length before → ListWritten k ws before t after → t ≡ Bytes (length (textOf k ws))
+fit-written k ws before after t fine room w =
+    writes-unique written-apart w (writes-fine (then-fine _ fine ∙ room-fine-iff _ _ .1 room) refl refl) .0
+
 -- ---- after the writer
 
 module _

@@ -17,5 +17,6 @@ pub mod AnyWords
 pub mod Lacks
 pub mod Listing
 pub mod Searches
+pub mod Found
 pub mod Comparing
 pub mod Unique

@@ -36,7 +36,7 @@ pub five-words : (h : List ℕ) → headerVerdict h ≡ Fine → length h ≡ fi
 five-words h e = legal-iff h .0 e .0
 
 -- a good list has at most `mostRules` rules
-few-rules : (rs : List ℕ) → listVerdict rs ≡ Fine → ruleCount rs ≤ mostRules
+pub few-rules : (rs : List ℕ) → listVerdict rs ≡ Fine → ruleCount rs ≤ mostRules
 few-rules rs e = let g = good-of-fine rs e in omega (arith, g .whole, g .few)
 
 -- a scan looks at no more rules than there are

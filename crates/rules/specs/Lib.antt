@@ -11,5 +11,6 @@ pub mod RuleCheck
 pub mod LineAll
 pub mod LineFirst
 pub mod Scan
+pub mod Found
 pub mod ScanSteps
 pub mod RuleMisses

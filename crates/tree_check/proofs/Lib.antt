@@ -21,9 +21,11 @@ pub mod PartChecks
 pub mod PartStages
 pub mod Figures
 pub mod Searches
+pub mod Found
 pub mod OneLack
 pub mod Eight
 pub mod Answers
+pub mod LeafFigures
 pub mod Answering
 pub mod Malformed
 pub mod FormedSoFar

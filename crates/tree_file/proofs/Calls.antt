@@ -14,9 +14,10 @@ use Rattle.facts.proofs.Setting.{written-front}
 use Rattle.refusals.specs.declared.Refusal.{Refusal}
 use Rattle.refusals.specs.declared.Refusal.the-variants.{LineWrong, TextStops}
 use Rattle.refusals.specs.declared.Verdict.the-variants as verdict
+use Rattle.refusals.specs.Promises.{WritesBoth, value}
 use Rattle.refusals.proofs.Order.{holds-fine, then-fine, then-fine-iff, room-fine-iff, refused-not-fine}
 use Rattle.refusals.proofs.Promises.{said-by, fine-by, left-written, writes-unique}
-use Rattle.refusals.proofs.Promises.{writes-fine, writes-refused, both-unique}
+use Rattle.refusals.proofs.Promises.{writes-fine, writes-refused, both-unique, writes-only}
 use Rattle.trees.specs.Words.{nodeWords, nodeCount}
 use Rattle.trees.proofs.Sizes.{sizes-fine-iff}
 use Rattle.text.specs.declared.put.Written.{Written}
@@ -29,12 +30,23 @@ use Rattle.tree_file.specs.declared.read.Read.{Read}
 use Rattle.tree_file.specs.declared.read.Read.the-variants as read
 use Rattle.tree_file.specs.TreeText.{Tree, tree, fileIn}
 use Rattle.tree_file.specs.TreeLines.{fileText, Spelling}
-use Rattle.tree_file.specs.Reading.{valuesIn, nodesIn, poolIn, roomFor, readVerdict, FileRead}
+use Rattle.tree_file.specs.Reading.{paper, valuesIn, nodesIn, poolIn, roomFor, readVerdict, FileRead}
 use Rattle.tree_file.specs.Writing.{writeVerdict, FileWritten}
 use Rattle.tree_file.proofs.RoundTrips.{read-of-written, written-of-read, spelling-of-read, cut-refused}
 use Rattle.tree_file.proofs.FirstWords.{other-word}
 use Rattle.tree_file.proofs.SpellingVerdict.{spelling-of-fine, fine-of-spelling}
 use Rattle.tree_file.proofs.ReadAnswers.{read-apart}
+
+-- ---- the writer
+
+-- a tree that is spelt is written where there is room for its text
+pub fit-written :
+    (word : List ℕ) (n : ℕ) (ns es before after : List ℕ) (t : Written) → Spelling n ns es →
+    length (fileText word n ns es) ≤ length before → FileWritten word n ns es before t after →
+    t ≡ Bytes (length (fileText word n ns es))
+fit-written word n ns es before after t spelt room w =
+    writes-unique written-apart w
+    (writes-fine (then-fine _ (fine-of-spelling n ns es spelt) ∙ room-fine-iff _ _ .1 room) refl refl) .0
 
 -- ---- after the writer
 
@@ -127,3 +139,23 @@ pub read-otherwise :
     FileRead (b ∷ v) s ws xs t x y → (t ≡ read.Refused (LineWrong 1)) × (x ≡ ws) × (y ≡ xs)
 read-otherwise a b u v s d r q =
     refused-as-found (b ∷ v) s _ (other-word a b u v d s _ (read-tree (a ∷ u) s r)) q
+
+-- ---- what the reader writes
+
+-- the nodes of a tree that reads well are three words each, and the values say how many nodes and pool words there are
+values-count :
+    (word s : List ℕ) (a b : ℕ) (t : Reading Tree) → fileIn word s ≡ t → readVerdict t a b ≡ verdict.Fine →
+    (length (nodesIn t) ≡ value 1 (valuesIn t) * nodeWords) × (length (poolIn t) ≡ value 2 (valuesIn t))
+values-count word s a b (refused why) q e = refused-not-fine e
+values-count word s a b (good (tree n ns es)) q e =
+    (omega (arith, sizes-fine-iff ns es .0 (spelling-of-read word s n ns es q .sizes) .whole), refl)
+
+-- its promise allows one answer, and it writes only the words that it counts
+pub read-writes :
+    (word s ns es : List ℕ) →
+    WritesBoth ns es (FileRead word s ns es) paper (λ vs. value 1 vs * nodeWords) (value 2)
+read-writes word s ns es =
+    let sizes = values-count word s (length ns) (length es) (fileIn word s) refl in (
+      writes-only read-apart (λ r a p. p .1 .0) (λ e. sizes e .0),
+      writes-only read-apart (λ r a p. p .1 .1) (λ e. sizes e .1),
+    )

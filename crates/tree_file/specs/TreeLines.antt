@@ -7,9 +7,7 @@
 --   fileText word n nodes pool     the text of a tree for n rules, in a file that begins with that word
 --   treeText, partText         the same in a tree's file, and in a part's
 --   Spelling n nodes pool      what a tree is written for: n is at most the most rules, the sizes hold, it is spelt
---   textOf t, partTextOf t     the text of a tree t as words, in a tree's file, and in a part's
---   Fits t                     it is written for, and its words have 32 bits
-use Prim.Native.Nat.{ℕ, _≤_, _^_}
+use Prim.Native.Nat.{ℕ, _≤_}
 use mathlib.Core.Bool.{cond}
 use mathlib.Core.Path.{_≡_}
 use mathlib.Core.List.{List, [], _∷_}
@@ -19,10 +17,9 @@ use Rattle.rules.specs.Words.{mostRules}
 use Rattle.trees.specs.Words.{nodeCount, fieldOf, valueOf, childOf, countOf, entries, sizeVerdict}
 use Rattle.trees.specs.Spelt.{isCut, Spelt}
 use Rattle.text.specs.Words.{tab, treeWord, partWord, cutWord, leafWord, threeTabs, fourTabs}
-use Rattle.text.specs.Line.{printLine, EachUnder}
+use Rattle.text.specs.Line.{printLine}
 use Rattle.text.specs.Text.{unlines}
 use Rattle.text.specs.EndLines.{recordLines, fileLines}
-use Rattle.tree_file.specs.TreeText.{Tree, tree}
 
 abbrev pub cutNumbers : List ℕ → ℕ → List ℕ
 cutNumbers nodes i = i ∷ fieldOf nodes i ∷ valueOf nodes i ∷ childOf nodes i ∷ []
@@ -58,15 +55,3 @@ pub record Spelling (n : ℕ) (nodes pool : List ℕ) : Type 0 where
   pub few : n ≤ mostRules
   pub sizes : sizeVerdict nodes pool ≡ Fine
   pub spelt : Spelt n nodes pool
-
-abbrev pub fileTextOf : List ℕ → Tree → List ℕ
-fileTextOf word (tree n nodes pool) = fileText word n nodes pool
-
-abbrev pub textOf : Tree → List ℕ
-textOf t = fileTextOf treeWord t
-
-abbrev pub partTextOf : Tree → List ℕ
-partTextOf t = fileTextOf partWord t
-
-abbrev pub Fits : Tree → Type 0
-Fits (tree n nodes pool) = Spelling n nodes pool × EachUnder (2 ^ 32) nodes

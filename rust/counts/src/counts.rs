@@ -32,6 +32,10 @@ impl Counts {
             }
         }
         let calls = calls(&crates, &functions)?;
+        let lines = lines(claims(&crates, "Demand1")?);
+        if let Some(at) = calls.iter().find(|at| !lines.contains(&functions[**at].name.replace('_', "-").as_str())) {
+            return Err(format!("Calls of Demand1.antt has no line for {}", functions[*at].name));
+        }
         let mut counts = Counts { crates, definitions, functions, calls, columns: Vec::new() };
         counts.columns = counts.reached()?;
         if let Some(one) = counts.public().find(|one| one.requires) {
@@ -106,16 +110,28 @@ impl Counts {
     }
 }
 
+/// A file of the claims.
+fn claims<'a>(crates: &'a [Crate], file: &str) -> Result<&'a str, String> {
+    let claims = crates.iter().find(|one| one.name == "claims").and_then(|one| one.specs.get(file));
+    claims.map(String::as_str).ok_or(format!("there is no crates/claims/specs/{file}.antt"))
+}
+
+/// The names of the lines of the claim `Calls`: of `rule_check` it is `rule-check`.
+fn lines(claims: &str) -> Vec<&str> {
+    let record = claims.split("pub record Calls ").nth(1).unwrap_or("").lines().skip(1);
+    let own = record.take_while(|line| line.is_empty() || line.starts_with(' '));
+    own.filter_map(|line| line.strip_prefix("  pub ")?.split(' ').next()).collect()
+}
+
 /// The functions that the claim `Code` names, as `in-rules.check.rule_check.Statement.statement`.
 fn calls(crates: &[Crate], functions: &[Function]) -> Result<Vec<usize>, String> {
-    let claims = crates.iter().find(|one| one.name == "claims").and_then(|one| one.specs.get("Demand1"));
-    let claims = claims.ok_or("there is no crates/claims/specs/Demand1.antt")?;
+    let claims = claims(crates, "Code")?;
     let named = Scope::of(claims, "use ").paths(claims);
     let statements = named.iter().filter_map(|path| path.strip_suffix(".Statement.statement"));
     let place = |path: &str| {
         let its = |one: &Function| format!("{}.proofs.{}.{}", one.krate, one.file.replace('/', "."), one.name);
         let is = |one: &Function| one.public && path == its(one);
-        functions.iter().position(is).ok_or(format!("Demand1.antt names {path}, which is no public function"))
+        functions.iter().position(is).ok_or(format!("Code.antt names {path}, which is no public function"))
     };
     statements.map(place).collect()
 }

@@ -80,6 +80,13 @@ abbrev pub Code : Type 1
 Code = in-low.code.call.Statement.statement M × low.Words.high
 ";
 
+const CALLS: &str = "\
+use Rattle.low.specs as low
+
+pub record Calls : Type 0 where
+  pub call : Fixes low.Words.Kept
+";
+
 fn tree(claims: &str) -> Vec<Crate> {
     let file = |name: &str, text: &str| BTreeMap::from([(name.to_string(), text.to_string())]);
     let low = Crate {
@@ -89,7 +96,8 @@ fn tree(claims: &str) -> Vec<Crate> {
         proofs: file("code/call/Proof", "-- Why.\n\nyes = no\n"),
         edits: file("call.no", ""),
     };
-    vec![low, Crate { name: "claims".to_string(), specs: file("Demand1", claims), ..Crate::default() }]
+    let specs = [file("Code", claims), file("Demand1", CALLS)].into_iter().flatten().collect();
+    vec![low, Crate { name: "claims".to_string(), specs, ..Crate::default() }]
 }
 
 #[test]
@@ -98,7 +106,7 @@ fn each_definition_counts_with_the_first_who_cites_it() {
     let found = counts.definitions.iter().zip(&counts.columns);
     let found: Vec<_> = found.map(|(one, column)| (one.name.as_str(), one.lines, *column)).collect();
     let low = [("low", 2, 0), ("Kept", 4, 0), ("_then_", 2, 1), ("high", 2, 1), ("other", 2, 2), ("step", 2, 3)];
-    assert_eq!(found, [&low[..], &[("Answer", 3, 1), ("Code", 2, 1)]].concat());
+    assert_eq!(found, [&low[..], &[("Answer", 3, 1), ("Code", 2, 1), ("Calls", 2, 1)]].concat());
 }
 
 #[test]
@@ -116,6 +124,17 @@ fn a_function_has_its_lines_and_what_its_contract_names() {
 fn a_claim_of_no_public_function_is_refused() {
     assert!(Counts::new(tree(&CLAIMS.replace("code.call", "code.private"))).is_err());
     assert!(Counts::new(tree(&CLAIMS.replace("code.call", "line.call"))).is_err());
+}
+
+#[test]
+fn a_call_without_a_line_is_refused() {
+    let without = |line: &str| {
+        let mut crates = tree(CLAIMS);
+        crates[1].specs.insert("Demand1".to_string(), CALLS.replace("  pub call :", line));
+        Counts::new(crates)
+    };
+    assert!(without("  pub other :").is_err_and(|reason| reason.ends_with(" no line for call")));
+    assert!(without("pub record Other : Type 0 where\n  pub call :").is_err());
 }
 
 #[test]
@@ -162,8 +181,8 @@ fn a_wrong_answer_is_known_by_its_form() {
 #[test]
 fn the_tables_have_the_counts() {
     let counts = Counts::new(tree(CLAIMS)).unwrap();
-    assert!(pages::definitions(&counts).contains("| `low` | 6 | 4 | 2 | 2 |\n| `claims` | 0 | 2 | 0 | 0 |\n"));
-    assert!(pages::definitions(&counts).contains("So 12 of 16 lines are to be believed."));
+    assert!(pages::definitions(&counts).contains("| `low` | 6 | 4 | 2 | 2 |\n| `claims` | 0 | 4 | 0 | 0 |\n"));
+    assert!(pages::definitions(&counts).contains("So 14 of 18 lines are to be believed."));
     assert!(pages::calls(&counts).ends_with("| `call` | `low/src/code.rt` | `Kept` (`low/specs/Words`) |\n"));
     assert!(pages::gate(&counts).starts_with("    3 passed, 0 failed\n"));
 }

@@ -28,7 +28,8 @@
  * caller's to say.
  *
  * A HEADER is five words (WICK_HEADER_WORDS), fields 0 to 4: source address, destination address, source port,
- * destination port, protocol. Ports are at most 65,535, the protocol is at most 255.
+ * destination port, protocol. A port is at most 65,535, or WICK_ABSENT_PORT, which is 65,536; the protocol is at most
+ * 255.
  *
  * PACKETS WITHOUT PORTS. A later fragment (its fragment offset is not 0) has no ports, nor has ICMP or any other
  * protocol without them. Such a packet has WICK_ABSENT_PORT in both port fields, and only rules with ports 0 to 65,535
@@ -43,7 +44,8 @@
  * leaf, the header is compared with the rules that the entries name.
  *
  * A PART is what stands of a tree whose build was stopped: its first nodes and their entries, as a tree has them, but
- * with 0 for each right child that is not begun. No search takes it for a tree: go on with it by wick_build_on.
+ * with 0 for each right child that is not begun. It is no tree: go on with it by wick_build_on. wick_tree_check refuses
+ * it; but the two tree searches take any words, and by a part they may give a wrong answer.
  *
  * UNCHECKED TREES. The two tree searches answer by the tree as it is. By a tree that is wrong for the rules they may
  * give a WRONG ANSWER WITHOUT A REFUSAL. Search only a tree that wick_tree_check has accepted or wick_build has built,

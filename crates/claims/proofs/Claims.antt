@@ -2,6 +2,7 @@
 use Rattle.rules.proofs.Misses.{matches-iff-agree}
 use Rattle.text.specs.Words.{treeWord, partWord}
 use Rattle.tree_file.proofs.RoundTrips.{tree-plain, part-plain}
+use Rattle.system.proofs.Results.{program-writes, why-writes, whole-writes, first-writes, next-writes}
 use Rattle.claims.specs.Claims.{Claims}
 use Rattle.claims.proofs.Demand1.{code-claim, calls-claim}
 use Rattle.claims.proofs.Demand2.{twins-claim, matching-claim, by-tree-claim}
@@ -43,4 +44,11 @@ claims =
       worked = worked;
       numbers = numbers-claim;
       program = program-claim;
+      runs = λ r es. record {
+        program = program-writes;
+        why = λ n small. why-writes n small;
+        at-once = whole-writes;
+        first-step = λ m. first-writes m;
+        next-step = λ m. next-writes m;
+      };
     }

@@ -1,5 +1,6 @@
 -- EVERY CLAIM, in one record: `claims` (proofs/Claims.antt) is its one proof. M is the prover's own parameter.
 use Prim.Native.Nat.{ℕ}
+use mathlib.Core.Bool.{Bool}
 use mathlib.Core.Path.{_≡_}
 use mathlib.Core.List.{List}
 use Rattle.refusals.specs.declared.Verdict.the-variants.{Fine}
@@ -7,6 +8,7 @@ use Rattle.fields.specs.Headers.{Legal}
 use Rattle.rules.specs.Good.{listVerdict}
 use Rattle.tree_check.specs.Serves.{Serves}
 use Rattle.text.specs.Words.{treeWord, partWord}
+use Rattle.ledger.specs.Ledger.{Entry}
 use Rattle.claims.specs.Code.{Code}
 use Rattle.claims.specs.Demand1.{Calls}
 use Rattle.claims.specs.Demand2.{Twins, Matching, ByTree}
@@ -21,6 +23,7 @@ use Rattle.claims.specs.Stops.{Stopping, Others}
 use Rattle.claims.specs.Worked.{AllHold, table}
 use Rattle.claims.specs.Numbers.{Numbers}
 use Rattle.claims.specs.Beyond.{Program}
+use Rattle.claims.specs.Runs.{Runs}
 
 pub record Claims : Type 2 where
   pub code : {M : Type 1} → Code M
@@ -46,3 +49,4 @@ pub record Claims : Type 2 where
   pub worked : AllHold table
   pub numbers : Numbers
   pub program : Program
+  pub runs : (r : Bool) (es : List Entry) → Runs r es

@@ -13,4 +13,5 @@ pub mod Stops
 pub mod Worked
 pub mod Numbers
 pub mod Beyond
+pub mod Runs
 pub mod Claims

@@ -1,3 +1,2 @@
--- The laws of the compiler: what is due for a list, at once and in steps.
-pub mod Due
-pub mod StepDue
+-- The laws of the compiler: what is asked of it, and the part that is gone on from.
+pub mod Asked

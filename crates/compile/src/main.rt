@@ -2,96 +2,111 @@
 // standard output, or one line with the refusal of the list or of its tree. With a number as argument it takes one step
 // of so many nodes, and writes the text of the part that stands by then, unless the tree is whole; with a file besides,
 // it goes on from the part in that file. Where that part is refused, the line of its refusal is written first, and the
-// step is one from nothing. What it writes is settled in proved libraries; here bytes are moved.
-//   arguments    what is asked for
-//   steps        one step
-mod arguments;
+// step is one from nothing. What it asks of the system, and what it writes, is settled by the contract of `run`.
+//   steps    one step
 mod steps;
 
-use arguments::Asked;
-use arguments::what_is_asked;
+use ledger::arguments::argument_count;
 use policy::compiled::compile_text;
 use policy::file::MOST_FILE;
 use policy::list::Listed;
 use policy::list::take_list;
-use refusals::Refusal;
 use refusals::Verdict;
 use rules::words::MOST_RULES;
 use rules::words::RULE_WORDS;
 use steps::write_first;
 use steps::write_next;
+use system::arguments::Told;
+use system::arguments::number_told;
 use system::load::RULES_FILE;
 use system::load::load;
+use system::out::say;
 use system::out::say_verdict;
-use system::out::write_front;
 use text::put::Written;
-ghost use Prim.Native.Nat.{_≤_};
 ghost use mathlib.Core.Path.{_≡_};
 ghost use lib.ListN.{length};
-ghost use Rattle.refusals.specs.declared.Verdict.the-variants as verdict;
-ghost use Rattle.policy.specs.Files.{ListOfFile, mostFile};
+ghost use Rattle.ledger.specs.Ledger.{Enters};
+ghost use Rattle.policy.specs.Files.{mostFile};
 ghost use Rattle.policy.specs.Compiled.{largestBuild, builtText};
-ghost use Rattle.system.specs.Handed.{InFront};
+ghost use Rattle.policy.specs.StepOutput.{textOr};
+ghost use Rattle.system.specs.Handing.{HandedOut};
+ghost use Rattle.system.specs.Runs.{ByFile, CompileRan};
+ghost use Rattle.compile.specs.Asks.{Due};
 
-// Nothing is written for wrong arguments.
+// The whole tree; one step of `most` nodes from nothing; or one from the part in a file.
+pub(crate) enum Asks {
+    Whole,
+    First { most: usize },
+    Next { most: usize },
+}
+
+// The ledger is begun, and goes through the whole run.
 fn main() {
-    let asks = what_is_asked();
-    if let Asked::Wrong = asks {
-        return;
+    let mut ledger = 0u64;
+    run(&mut ledger);
+}
+
+// No argument asks for the whole; a number of nodes for a step from nothing; with a file besides, for one from the part
+// in it. Nothing is done for wrong arguments.
+fn run(ledger: &mut u64) -> bool
+    ensures { λ r. ⌜ Enters (CompileRan r) (now (ledger .entry)) (now (ledger .exit)) ⌝ }
+{
+    let count = argument_count(ledger);
+    if count < 2 {
+        return compile_list(ledger, Asks::Whole);
     }
-    compile_list(asks);
+    if 3 < count {
+        return true;
+    }
+    match number_told(ledger) {
+        Told::Wrong => true,
+        Told::Number(n) => {
+            let most = n as usize;
+            if count == 2 {
+                return compile_list(ledger, Asks::First { most });
+            }
+            compile_list(ledger, Asks::Next { most })
+        }
+    }
 }
 
 // The text of the list is read into a buffer, which is cleared for what is written. A refused list ends the program.
-fn compile_list(asks: Asked) {
+fn compile_list(ledger: &mut u64, asks: Asks) -> bool
+    ensures { λ r. ⌜ Enters (ByFile (Due asks) r) (now (ledger .entry)) (now (ledger .exit)) ⌝ }
+{
     let mut buffer = [0u8; MOST_FILE];
     let mut rules = [0u32; MOST_RULES * RULE_WORDS];
-    let file = load(&RULES_FILE, &mut buffer);
+    let file = load(ledger, &RULES_FILE, &mut buffer);
     match take_list(file, &buffer, &mut rules) {
-        Listed::Refused(why) => {
-            say_verdict(Verdict::Refused(why));
-        }
+        Listed::Refused(why) => say_verdict(ledger, Verdict::Refused(why)),
         Listed::Words { words } => {
             buffer = [0u8; MOST_FILE];
-            write_asked(asks, &rules[..words], &mut buffer);
+            write_asked(ledger, asks, &rules[..words], &mut buffer)
         }
     }
 }
 
 // Writes what is asked for of the list.
-fn write_asked(asks: Asked, rules: &[u32], out: &mut [u8]) -> bool
-    requires { ⌜ ListOfFile (now rules) ⌝ }
-    requires { ⌜ mostFile ≤ length (now out) ⌝ }
+fn write_asked(ledger: &mut u64, asks: Asks, rules: &[u32], out: &mut [u8]) -> bool
+    requires { ⌜ length (now out) ≡ mostFile ⌝ }
+    ensures { λ r. ⌜ Enters (Due asks (now (rules .entry)) r) (now (ledger .entry)) (now (ledger .exit)) ⌝ }
 {
     match asks {
-        Asked::Wrong => false,
-        Asked::Whole => write_tree(rules, out),
-        Asked::First { most } => write_first(rules, most, out),
-        Asked::Next { most } => write_next(rules, most, out),
+        Asks::Whole => write_tree(ledger, rules, out),
+        Asks::First { most } => write_first(ledger, rules, most, out),
+        Asks::Next { most } => write_next(ledger, rules, most, out),
     }
 }
 
 // Compiles the list, and writes the text of its tree, or why there is none. There is room for every text.
-fn write_tree(rules: &[u32], out: &mut [u8]) -> bool
-    requires { ⌜ ListOfFile (now rules) ⌝ }
-    requires { ⌜ mostFile ≤ length (now out) ⌝ }
+fn write_tree(ledger: &mut u64, rules: &[u32], out: &mut [u8]) -> bool
+    requires { ⌜ length (now out) ≡ mostFile ⌝ }
+    ensures { λ r. ⌜ Enters
+        (HandedOut (textOr (largestBuild (now (rules .entry))) (builtText (now (rules .entry)))) r)
+        (now (ledger .entry)) (now (ledger .exit)) ⌝ }
 {
     match compile_text(rules, out) {
-        Written::Refused(why) => say_refused(rules, why),
-        Written::Bytes { bytes } => write_text(rules, bytes, out),
+        Written::Refused(why) => say_verdict(ledger, Verdict::Refused(why)),
+        Written::Bytes { bytes } => say(ledger, &out[..bytes]),
     }
-}
-
-// Says why there is no tree. It is told what is due, as `write_text` is, and must be handed exactly that.
-fn say_refused(rules: &[u32], why: Refusal) -> bool
-    requires { ⌜ largestBuild (now rules) ≡ verdict.Refused why ⌝ }
-{
-    say_verdict(Verdict::Refused(why))
-}
-
-// Writes the text of the tree.
-fn write_text(rules: &[u32], count: usize, out: &[u8]) -> bool
-    requires { ⌜ InFront (builtText (now rules)) count (now out) ⌝ }
-{
-    write_front(count, out)
 }

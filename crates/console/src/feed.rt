@@ -14,6 +14,7 @@ ghost use Prim.Native.Nat.{_≤_};
 ghost use mathlib.Core.Path.{_≡_};
 ghost use lib.ListN.{length};
 ghost use Rattle.text.specs.Said.{Said};
+ghost use Rattle.console.specs.Lines.{mostRefused};
 ghost use Rattle.console.specs.Replies.{answerTo};
 ghost use Rattle.console.specs.MissLines.{missAnswer};
 ghost use Rattle.console.specs.Judged.{answerAsked};
@@ -158,6 +159,7 @@ fn whole_line(
 // The reply at the end of input: nothing, or 10 to a last part without newline, of any length.
 pub fn last_reply(gathering: Gathering, out: &mut [u8]) -> Written
     ensures { λ r. ⌜ Said (lastReply gathering) (now (out .entry)) r (now (out .exit)) ⌝ }
+    ensures short { λ _. ⌜ length (lastReply gathering) ≤ mostRefused ⌝ }
 {
     let lines = gathering.lines;
     if gathering.count == 0 {

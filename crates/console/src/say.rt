@@ -28,12 +28,13 @@ ghost use Rattle.rules.specs.Words.{mostRules};
 ghost use Rattle.text.specs.Words.{tab};
 ghost use Rattle.text.specs.Puts.{Put};
 ghost use Rattle.text.specs.Said.{Said};
-ghost use Rattle.console.specs.Lines.{refusedLine, hitLine};
+ghost use Rattle.console.specs.Lines.{refusedLine, hitLine, mostRefused};
 ghost use Rattle.console.specs.MissLines.{nameOf, missLine};
 
 // The line of a refusal, from the front of `out` on; the rest of `out` is as found.
 pub fn refused_line(why: Refusal, out: &mut [u8]) -> Written
     ensures { λ r. ⌜ Said (refusedLine why) (now (out .entry)) r (now (out .exit)) ⌝ }
+    ensures short { λ _. ⌜ length (refusedLine why) ≤ mostRefused ⌝ }
 {
     let needed = put_refused(why, &mut out[..0]);
     if out.len() < needed {
@@ -74,7 +75,7 @@ pub(crate) fn miss_line(rules: &[u32], rule: usize, field: usize, out: &mut [u8]
 // `refused`, number, place and extra; it answers how many bytes that makes.
 fn put_refused(why: Refusal, out: &mut [u8]) -> usize
     ensures { λ r. ⌜ Put (now (out .entry)) 0 (refusedLine why) (now (out .exit)) r ×
-        (length (refusedLine why) ≤ 71) ⌝ }
+        (length (refusedLine why) ≤ mostRefused) ⌝ }
 {
     let p = put_bytes(out, 0, &REFUSED);
     let q = put_wide(out, p, TAB, number_of(why));

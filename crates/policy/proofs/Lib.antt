@@ -4,6 +4,7 @@ pub mod Listing
 pub mod Taking
 pub mod Servers
 pub mod Output
+pub mod Refusing
 pub mod Unique
 pub mod Stored
 pub mod Compiling

@@ -29,7 +29,7 @@ use Rattle.rule_file.specs.Reading as reader
 use Rattle.rule_file.proofs.RoundTrips.{good-of-read, below-of-read}
 use Rattle.policy.specs.declared.list.Listed.{Listed}
 use Rattle.policy.specs.declared.list.Listed.the-variants.{Refused, Words}
-use Rattle.policy.specs.Files.{listIn, ListOfFile}
+use Rattle.policy.specs.Files.{listIn}
 use Rattle.policy.specs.TakeList.{ListTaken}
 
 -- ---- what the reader said
@@ -105,12 +105,11 @@ taken-list f {before} {after} {n} t = go (listIn f) refl
           rw (left, length-append ws (drop (length ws) before)) (omega (arith, count)),
         )
 
--- so it is the list of a file, and within the lent words
-pub list-handed :
+-- so it is where the answer says so
+pub list-taken :
     (f : Option (List ℕ)) {before after : List ℕ} {l : Listed} {n : ℕ} → ListTaken f before l after → l ≡ Words n →
-    ListOfFile (take n after) × (n ≤ length after)
-list-handed f {before} {after} t e =
-    let w = taken-list f (subst (λ (x : Listed). ListTaken f before x after) e t) in ((f, w .0), w .1)
+    (listIn f ≡ good (take n after)) × (n ≤ length after)
+list-taken f {before} {after} t e = taken-list f (subst (λ (x : Listed). ListTaken f before x after) e t)
 
 -- the list that a file holds is good
 pub list-good : (f : Option (List ℕ)) {rs : List ℕ} → listIn f ≡ good rs → listVerdict rs ≡ verdict.Fine

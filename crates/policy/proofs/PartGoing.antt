@@ -22,7 +22,7 @@ use Rattle.policy.specs.declared.part.Begun.the-variants.{Refused, Words
 use Rattle.policy.specs.Files.{partOf}
 use Rattle.policy.specs.Output.{ownVerdict}
 use Rattle.policy.specs.TakePart.{paper, madeFor, PartTaken, begunBy, goesOn}
-use Rattle.policy.specs.StepOutput.{partVerdict, PartTakenOn}
+use Rattle.policy.specs.StepOutput.{partVerdict}
 use Rattle.policy.proofs.Stored.{stands}
 use Rattle.policy.proofs.Output.{part-room}
 
@@ -69,13 +69,15 @@ module _ (rs : List ℕ) (f : Option (List ℕ)) {nodes pool nodes′ pool′ : 
   -- where a part is gone on from it is the one that the file holds, it is not refused, and it is within the lent words
   pub goes-words :
       {r : Begun} {k n p : ℕ} → r ≡ goesOn t rs nodes′ pool′ → r ≡ Words k n p →
-      PartTakenOn rs k (take n nodes′) (take p pool′) × (n ≤ length nodes′) × (p ≤ length pool′)
+      (partOf f ≡ good (tree k (take n nodes′) (take p pool′))) × (partVerdict rs (partOf f) ≡ verdict.Fine) ×
+      (n ≤ length nodes′) × (p ≤ length pool′)
   unfolding goesOn partVerdict
   goes-words {k = k} {n = n} {p = p} d e = go t refl (sym d ∙ e)
     where
       go :
           (x : Begun) → t ≡ x → goesOn x rs nodes′ pool′ ≡ Words k n p →
-          PartTakenOn rs k (take n nodes′) (take p pool′) × (n ≤ length nodes′) × (p ≤ length pool′)
+          (partOf f ≡ good (tree k (take n nodes′) (take p pool′))) × (partVerdict rs (partOf f) ≡ verdict.Fine) ×
+          (n ≤ length nodes′) × (p ≤ length pool′)
       go (Refused y) q g = let z : _≡_ {A = ℕ} 0 1 = cc in absurd (omega arith)
       go (Words i m o) q g =
           let w = taken-words q in
@@ -85,7 +87,7 @@ module _ (rs : List ℕ) (f : Option (List ℕ)) {nodes pool nodes′ pool′ : 
           let told = b .1 in
           let whole : partOf f ≡ good (tree k (take n nodes′) (take p pool′)) =
           w .0 ∙ rw (told, many, held) in
-          ((f, whole, rw (w .0) (then-fine _ refl ∙ b .0)), rw (← many) (w .1), rw (← held) (w .2))
+          (whole, rw (w .0) (then-fine _ refl ∙ b .0), rw (← many) (w .1), rw (← held) (w .2))
 
   module _ (node-room : mostNodes * nodeWords ≤ length nodes) (pool-room : mostPool ≤ length pool) where
     -- where there is room for any part, a part that was not taken is refused as its file is

@@ -3,15 +3,13 @@
 --   listIn f           the list that the rule file f holds: 12 where it was not read, else what its text says
 --   treeOf f           the tree that the tree file f holds, in the same way
 --   partOf f           the part that the part file f holds
---   ListOfFile rs      rs is the list that some rule file holds
 --   mostFile           the most bytes of a file that the programs read
 use Prim.Native.Nat.{ℕ}
-use mathlib.Core.Path.{_≡_}
 use mathlib.Core.List.{List}
 use mathlib.Core.Option.{Option, none, some}
 use lib.ListN.{take}
 use Rattle.refusals.specs.declared.Refusal.the-variants.{FileNotRead}
-use Rattle.text.specs.Text.{Reading, good, refused}
+use Rattle.text.specs.Text.{Reading, refused}
 use Rattle.rule_file.specs.RuleText.{rulesIn}
 use Rattle.tree_file.specs.TreeText.{Tree, treeIn, partIn}
 use Rattle.policy.specs.declared.file.File.{File}
@@ -33,9 +31,6 @@ treeOf f = readBy treeIn f
 
 unfoldable pub partOf : Option (List ℕ) → Reading Tree
 partOf f = readBy partIn f
-
-abbrev pub ListOfFile : List ℕ → Type 0
-ListOfFile rs = (f : Option (List ℕ)) × (listIn f ≡ good rs)
 
 abbrev pub mostFile : ℕ
 mostFile = 65536

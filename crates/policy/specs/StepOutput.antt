@@ -8,13 +8,9 @@
 --   firstOutput f most    all that is written of a step from nothing, f being the rule file: a refused list has its
 --                         line
 --   nextOutput f g most   the same of a step from the part file g
---   PartRefused rs why    the part of some file is refused so, for the list rs
---   PartTakenOn rs n part kept    some file holds this part, and a compile of the list rs goes on from it
 use Prim.Native.Nat.{ℕ}
-use mathlib.Core.Path.{_≡_}
 use mathlib.Core.List.{List, _++_}
 use mathlib.Core.Option.{Option}
-use Rattle.refusals.specs.declared.Refusal.{Refusal}
 use Rattle.refusals.specs.declared.Verdict.{Verdict}
 use Rattle.refusals.specs.declared.Verdict.the-variants.{Fine, Refused}
 use Rattle.refusals.specs.Order.{_then_}
@@ -22,8 +18,8 @@ use Rattle.rules.specs.Words.{ruleCount}
 use Rattle.rules.specs.Good.{listVerdict}
 use Rattle.tree_check.specs.PartCheck.{soFarVerdict}
 use Rattle.built.specs.BuiltTree.{builtTree}
-use Rattle.text.specs.Text.{Reading, good}
-use Rattle.tree_file.specs.TreeText.{Tree, tree}
+use Rattle.text.specs.Text.{Reading}
+use Rattle.tree_file.specs.TreeText.{Tree}
 use Rattle.tree_file.specs.Reading.{nodesIn, poolIn}
 use Rattle.policy.specs.Files.{listIn, partOf}
 use Rattle.policy.specs.Output.{ownVerdict, verdictLine, onList}
@@ -60,10 +56,3 @@ firstOutput f most = onList (listIn f) (λ rs. firstStep rs most)
 
 unfoldable pub nextOutput : Option (List ℕ) → Option (List ℕ) → ℕ → List ℕ
 nextOutput f g most = onList (listIn f) (λ rs. nextStep rs (partOf g) most)
-
-abbrev pub PartRefused : List ℕ → Refusal → Type 0
-PartRefused rs why = (g : Option (List ℕ)) × (partVerdict rs (partOf g) ≡ Refused why)
-
-abbrev pub PartTakenOn : List ℕ → ℕ → List ℕ → List ℕ → Type 0
-PartTakenOn rs n part kept =
-    (g : Option (List ℕ)) × (partOf g ≡ good (tree n part kept)) × (partVerdict rs (partOf g) ≡ Fine)

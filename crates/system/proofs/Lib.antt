@@ -1,7 +1,11 @@
--- The laws of what the programs ask of the system: what a read says, read after read, the number that an argument says,
--- what stands in front, and what a piece of input leaves.
-pub mod Reading
+-- The laws of what the programs do with the system: files read after read, the number that an argument says, what is
+-- handed out, and standard input, read after read.
 pub mod Loading
 pub mod Telling
-pub mod Standing
+pub mod Handing
 pub mod Turning
+pub mod Inputs
+pub mod Running
+pub mod Asking
+pub mod Outcomes
+pub mod Results

@@ -1,7 +1,8 @@
--- What a read says, what a file is, the number that an argument says, what stands in front of lent bytes, and what a
--- piece of input leaves.
-pub mod Reads
+-- What a file is, the number that an argument says, what is handed out, standard input, read after read, whole runs,
+-- and what comes of them.
 pub mod Files
 pub mod TellsNumber
-pub mod Handed
+pub mod Handing
 pub mod Turns
+pub mod Runs
+pub mod Outcomes

@@ -1,9 +1,11 @@
-// The number that a program is started with. No contract can say what the arguments are; what is made of one is proved.
+// The number that a program is started with.
+use ledger::arguments::argument;
 use text::cursor::Cursor;
 use text::cursor::Step;
 use text::words::ONE_TAB;
 use text::words::TAB;
 ghost use mathlib.Core.Path.{_≡_};
+ghost use Rattle.ledger.specs.Ledger.{Enters};
 ghost use Rattle.system.specs.TellsNumber.{numberIn, TellsNumber};
 
 // A tab, and a number of 32 bits, which has at most ten digits.
@@ -16,11 +18,11 @@ pub enum Told {
 }
 
 // The number that the first argument says. An argument that is too long counts as none.
-pub fn number_told() -> Told
-    ensures { λ r. ⌜ TellsNumber r ⌝ }
+pub fn number_told(ledger: &mut u64) -> Told
+    ensures { λ r. ⌜ Enters (TellsNumber r) (now (ledger .entry)) (now (ledger .exit)) ⌝ }
 {
     let mut line = [TAB; MOST_LINE];
-    let n = os::arg(1, &mut line[1..]);
+    let n = argument(ledger, 1, &mut line[1..]);
     let end = n + 1;
     number_in(&line[..end])
 }

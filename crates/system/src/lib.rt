@@ -1,14 +1,12 @@
-// What the programs ask of the system. No contract can say what is read or written. What is made of the system's
-// answers is proved, and so is that what is handed to it is what is due: the line of a verdict, and the replies to
-// input.
+// What the programs do with the system: files are read, standard input is answered, refusals are told. All of it goes
+// through the ledger, so that what is asked of the system, in which order, and what is made of its answers, is proved.
 //   arguments::number_told    the number that the first argument says
 //   load::load                a file into a lent buffer, whole or not at all
-//   load::read_some           one read
-//   out::write_front          the first bytes of a buffer, to standard output
+//   out::say                  bytes to standard output
 //   out::say_verdict          the line of a refusal, to standard output
 //   serve::serve              the lines of standard input, answered: which rules match their headers
 //   serve::serve_why          the same: why one rule misses their headers
-// Each takes any words and bytes. Rests on facts, refusals, text, console and policy.
+// Each takes any words and bytes. Rests on facts, refusals, text, console, policy and ledger.
 pub mod arguments;
 pub mod load;
 pub mod out;

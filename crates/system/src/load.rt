@@ -1,20 +1,19 @@
 // A file into the buffer: whole, or not at all.
+use ledger::input::Descriptor;
+use ledger::input::Got;
+use ledger::input::close_file;
+use ledger::input::open_file;
+use ledger::input::read_some;
 use policy::file::File;
-ghost use Prim.Native.Nat.{_≤_};
 ghost use mathlib.Core.Path.{_≡_};
 ghost use lib.ListN.{length};
-ghost use Rattle.system.specs.Reads.{gotOf, Gets};
-ghost use Rattle.system.specs.Files.{Fits, noReads, nextReads, lastReads, moreReads, fileOf, Loaded};
+ghost use Rattle.ledger.specs.Ledger.{Enters};
+ghost use Rattle.policy.specs.Files.{textIn};
+ghost use Rattle.system.specs.Files.{ReadFits, noReads, nextReads, lastReads, moreReads, fileOf};
+ghost use Rattle.system.specs.Files.{ReadToEnd, ReadPast, FileLoaded};
 
 // The file with the list of rules, in the folder where a program is started.
 pub const RULES_FILE: [u8; 9] = *b"rules.txt";
-
-// What one read gave. A read that fails is never taken for the end.
-pub enum Got {
-    Failed,
-    Ended,
-    Bytes { count: usize },
-}
 
 // The reads of a file so far: how many bytes stand in front of the buffer, and what the last read gave.
 pub struct Reads {
@@ -23,39 +22,43 @@ pub struct Reads {
 }
 
 // Reads the file at `path` to its end, and closes it. Its bytes stand in front of the buffer.
-pub fn load(path: &[u8], buffer: &mut [u8]) -> File
-    ensures { λ r. ⌜ Loaded (now (buffer .exit)) r ⌝ }
+pub fn load(ledger: &mut u64, path: &[u8], buffer: &mut [u8]) -> File
+    ensures { λ r. ⌜ Enters
+        (FileLoaded (length (now (buffer .exit))) (now (path .entry)) (textIn r (now (buffer .exit))))
+        (now (ledger .entry)) (now (ledger .exit)) ⌝ }
 {
-    let fd = os::open_read(path);
-    if fd < 0 {
+    let fd = open_file(ledger, path);
+    if !fd.is_open() {
         return File::NotRead;
     }
-    let reads = read_on(fd, buffer);
-    libc::close(fd);
+    let reads = read_on(ledger, fd, buffer);
+    close_file(ledger, fd);
     reads.file()
 }
 
 // Reads until a read gives no more bytes, or the buffer is full. A short read is not the end; and of a full buffer one
 // more read says whether anything follows.
-fn read_on(fd: i32, buffer: &mut [u8]) -> Reads
-    ensures { λ r. ⌜ r .done ≤ length (now (buffer .exit)) ⌝ }
+fn read_on(ledger: &mut u64, fd: Descriptor, buffer: &mut [u8]) -> Reads
+    ensures { λ r. ⌜ Enters (ReadToEnd fd (length (now (buffer .exit))) (textIn (fileOf r) (now (buffer .exit))))
+        (now (ledger .entry)) (now (ledger .exit)) ⌝ }
 {
     let mut reads = Reads::start();
-    let mut done = 0;
-    while done < buffer.len() && reads.more() {
-        reads = reads.next(read_some(fd, &mut buffer[done..]));
-        done = reads.done;
+    while reads.done < buffer.len() && reads.more() {
+        let done = reads.done;
+        reads = reads.next(read_some(ledger, fd, &mut buffer[done..]));
     }
     if reads.more() {
-        reads = reads.past(read_next(fd));
+        reads = reads.past(read_next(ledger, fd));
     }
     reads
 }
 
 // One read of a byte that may follow.
-fn read_next(fd: i32) -> Got {
+fn read_next(ledger: &mut u64, fd: Descriptor) -> Got
+    ensures { λ r. ⌜ Enters (ReadPast fd r) (now (ledger .entry)) (now (ledger .exit)) ⌝ }
+{
     let mut next = [0u8; 1];
-    read_some(fd, &mut next)
+    read_some(ledger, fd, &mut next)
 }
 
 impl Reads {
@@ -71,7 +74,7 @@ impl Reads {
 
     // After one read more.
     fn next(self, got: Got) -> Reads
-        requires { ⌜ Fits (self .done) got ⌝ }
+        requires { ⌜ ReadFits (self .done) got ⌝ }
         ensures { λ r. ⌜ r ≡ nextReads self got ⌝ }
     {
         let done = self.done;
@@ -118,26 +121,4 @@ impl Reads {
             Got::Bytes { count: _ } => File::NotRead,
         }
     }
-}
-
-// One read, from the front of `part` on.
-pub fn read_some(fd: i32, part: &mut [u8]) -> Got
-    ensures { λ r. ⌜ Gets (now (part .exit)) r ⌝ }
-{
-    let got = libc::read(fd, part);
-    got_of(got, part)
-}
-
-// What the answer of a read into `part` says.
-fn got_of(got: isize, part: &[u8]) -> Got
-    ensures { λ r. ⌜ r ≡ gotOf got (length (now (part .entry))) ⌝ }
-{
-    if got < 0 {
-        return Got::Failed;
-    }
-    let count = io::count(got, part);
-    if count == 0 {
-        return Got::Ended;
-    }
-    Got::Bytes { count }
 }

@@ -1,24 +1,24 @@
 // The lines of standard input, answered. Each is answered before the program waits for more.
-use crate::load::Got;
-use crate::load::read_some;
+use crate::out::say;
 use crate::out::say_last;
-use crate::out::write_replies;
 use console::feed::Fed;
 use console::feed::feed;
 use console::feed::feed_why;
 use console::gather::Gathering;
-use libc::STDIN_FILENO;
+use ledger::input::Got;
+use ledger::input::read_some;
+use ledger::input::standard_input;
 ghost use Prim.Native.Nat.{_≤_};
-ghost use mathlib.Core.Bool.{true};
 ghost use mathlib.Core.Path.{_≡_};
 ghost use lib.ListN.{length};
 ghost use Rattle.console.specs.Lines.{mostReply};
 ghost use Rattle.console.specs.Replies.{answerTo};
 ghost use Rattle.console.specs.MissLines.{missAnswer};
 ghost use Rattle.console.specs.Feeding.{IsFed};
-ghost use Rattle.system.specs.Reads.{Gets};
-ghost use Rattle.system.specs.Turns.{answerFor, moreToRead, inputEnded, outputFailed, firstTurn};
-ghost use Rattle.system.specs.Turns.{PieceAnswered, GotAnswered, SomeAnswered, LinesAnswered};
+ghost use Rattle.ledger.specs.Reads.{Gets};
+ghost use Rattle.ledger.specs.Ledger.{Enters};
+ghost use Rattle.system.specs.Turns.{answerFor, moreToRead, inputEnded, outputFailed, mostPiece};
+ghost use Rattle.system.specs.Turns.{PieceAnswered, GotAnswered, SomeAnswered, InputAnswered};
 
 // The bytes that are read at once at most, and the bytes of replies that are written at once at most.
 const PIECE: usize = 65536;
@@ -36,50 +36,63 @@ pub(crate) struct Turn {
     pub gathering: Gathering,
 }
 
-// Answers which rules match, by the tree if it was accepted. It does not begin where what comes before, the refusal of
-// the tree, could not be told. It answers whether all that was due was written.
-pub fn serve(rules: &[u32], nodes: &[u32], pool: &[u32], accepted: bool, told: bool) -> bool
-    ensures { λ r. ⌜ LinesAnswered (answerTo accepted (now (rules .entry)) (now (nodes .entry)) (now (pool .entry)))
-        told r ⌝ }
+// Answers which rules match, by the tree if it was accepted; and answers whether all that was due was written.
+pub fn serve(ledger: &mut u64, rules: &[u32], nodes: &[u32], pool: &[u32], accepted: bool) -> bool
+    ensures { λ r. ⌜ Enters
+        (InputAnswered (answerTo accepted (now (rules .entry)) (now (nodes .entry)) (now (pool .entry))) r)
+        (now (ledger .entry)) (now (ledger .exit)) ⌝ }
 {
-    answer_lines(rules, nodes, pool, Asked::Matches { accepted }, told)
+    answer_lines(ledger, rules, nodes, pool, Asked::Matches { accepted })
 }
 
-// Answers why rule `rule` misses. It answers whether all that was due was written.
-pub fn serve_why(rules: &[u32], rule: usize) -> bool
-    ensures { λ r. ⌜ LinesAnswered (missAnswer (now (rules .entry)) rule) true r ⌝ }
+// Answers why rule `rule` misses; and answers whether all that was due was written.
+pub fn serve_why(ledger: &mut u64, rules: &[u32], rule: usize) -> bool
+    ensures { λ r. ⌜ Enters (InputAnswered (missAnswer (now (rules .entry)) rule) r) (now (ledger .entry))
+        (now (ledger .exit)) ⌝ }
 {
     answer_lines(
+        ledger,
         rules,
         &rules[..0],
         &rules[..0],
         Asked::Misses { rule },
-        true,
     )
 }
 
 // Answers standard input to its end, and then the part that has no newline. Output that cannot be written stops it.
 // Nothing proves that input ends, so the reads are counted down, from a number that no run uses up.
-fn answer_lines(rules: &[u32], nodes: &[u32], pool: &[u32], asked: Asked, told: bool) -> bool
-    ensures { λ r. ⌜ LinesAnswered (answerFor asked (now (rules .entry)) (now (nodes .entry)) (now (pool .entry)))
-        told r ⌝ }
+fn answer_lines(ledger: &mut u64, rules: &[u32], nodes: &[u32], pool: &[u32], asked: Asked) -> bool
+    ensures { λ r. ⌜ Enters
+        (InputAnswered (answerFor asked (now (rules .entry)) (now (nodes .entry)) (now (pool .entry))) r)
+        (now (ledger .entry)) (now (ledger .exit)) ⌝ }
 {
     let mut piece = [0u8; PIECE];
     let mut out = [0u8; PIECE];
-    let mut turn = first_turn(told);
+    let mut turn = more_to_read(Gathering::start());
     let mut reads = u64::MAX;
     while reads > 0 && turn.more {
-        turn = answer_some(rules, nodes, pool, asked, turn, &mut piece, &mut out);
+        turn = answer_some(
+            ledger,
+            rules,
+            nodes,
+            pool,
+            asked,
+            turn,
+            &mut piece,
+            &mut out,
+        );
         reads -= 1;
     }
+    let last = turn.gathering;
     if !turn.written {
         return false;
     }
-    say_last(turn)
+    say_last(ledger, last)
 }
 
 // Reads once, and answers what came.
 fn answer_some(
+    ledger: &mut u64,
     rules: &[u32],
     nodes: &[u32],
     pool: &[u32],
@@ -89,15 +102,18 @@ fn answer_some(
     out: &mut [u8],
 ) -> Turn
     requires { ⌜ mostReply ≤ length (now out) ⌝ }
-    ensures { λ r. ⌜ SomeAnswered (answerFor asked (now (rules .entry)) (now (nodes .entry)) (now (pool .entry)))
-        (turn .gathering) r ⌝ }
+    requires { ⌜ length (now piece) ≡ mostPiece ⌝ }
+    ensures { λ r. ⌜ Enters
+        (SomeAnswered (answerFor asked (now (rules .entry)) (now (nodes .entry)) (now (pool .entry)))
+        (turn .gathering) r) (now (ledger .entry)) (now (ledger .exit)) ⌝ }
 {
-    let got = read_some(STDIN_FILENO, piece);
-    answer_got(rules, nodes, pool, asked, turn, got, piece, out)
+    let got = read_some(ledger, standard_input(), piece);
+    answer_got(ledger, rules, nodes, pool, asked, turn, got, piece, out)
 }
 
 // Answers the lines that end in what a read gave. A read that fails ends the input, as its end does.
 fn answer_got(
+    ledger: &mut u64,
     rules: &[u32],
     nodes: &[u32],
     pool: &[u32],
@@ -109,20 +125,31 @@ fn answer_got(
 ) -> Turn
     requires { ⌜ mostReply ≤ length (now out) ⌝ }
     requires { ⌜ Gets (now piece) got ⌝ }
-    ensures { λ r. ⌜ GotAnswered (answerFor asked (now (rules .entry)) (now (nodes .entry)) (now (pool .entry)))
-        (turn .gathering) got (now (piece .entry)) r ⌝ }
+    ensures { λ r. ⌜ Enters
+        (GotAnswered (answerFor asked (now (rules .entry)) (now (nodes .entry)) (now (pool .entry)))
+        (turn .gathering) got (now (piece .entry)) r) (now (ledger .entry)) (now (ledger .exit)) ⌝ }
 {
     let from = turn.gathering;
     match got {
         Got::Failed => input_ended(from),
         Got::Ended => input_ended(from),
-        Got::Bytes { count } => answer_piece(rules, nodes, pool, asked, from, &piece[..count], out),
+        Got::Bytes { count } => answer_piece(
+            ledger,
+            rules,
+            nodes,
+            pool,
+            asked,
+            from,
+            &piece[..count],
+            out,
+        ),
     }
 }
 
 // Answers the lines that end in a piece of the input, as many at once as there is room for. A reply for which there is
 // none is not written; there is room for the longest reply of a good list.
 fn answer_piece(
+    ledger: &mut u64,
     rules: &[u32],
     nodes: &[u32],
     pool: &[u32],
@@ -132,8 +159,9 @@ fn answer_piece(
     out: &mut [u8],
 ) -> Turn
     requires { ⌜ mostReply ≤ length (now out) ⌝ }
-    ensures { λ r. ⌜ PieceAnswered (answerFor asked (now (rules .entry)) (now (nodes .entry)) (now (pool .entry)))
-        from (now (piece .entry)) r ⌝ }
+    ensures { λ r. ⌜ Enters
+        (PieceAnswered (answerFor asked (now (rules .entry)) (now (nodes .entry)) (now (pool .entry))) from
+        (now (piece .entry)) r) (now (ledger .entry)) (now (ledger .exit)) ⌝ }
 {
     let mut gathering = from;
     let mut at = 0;
@@ -142,22 +170,12 @@ fn answer_piece(
         if fed.taken == 0 {
             return output_failed(from);
         }
-        let end = at + fed.taken;
         let filled = fed.filled;
-        if !write_replies(
-            rules,
-            nodes,
-            pool,
-            asked,
-            gathering,
-            &piece[at..end],
-            filled,
-            out,
-        ) {
+        if !say(ledger, &out[..filled]) {
             return output_failed(from);
         }
         gathering = fed.gathering;
-        at = end;
+        at = at + fed.taken;
     }
     more_to_read(gathering)
 }
@@ -180,16 +198,6 @@ fn feed_asked(
         Asked::Matches { accepted } => feed(rules, nodes, pool, accepted, from, piece, out),
         Asked::Misses { rule } => feed_why(rules, rule, from, piece, out),
     }
-}
-
-// Before the first read: there is nothing to be read where what comes before it could not be told.
-fn first_turn(told: bool) -> Turn
-    ensures { λ r. ⌜ r ≡ firstTurn told ⌝ }
-{
-    if told {
-        return more_to_read(Gathering::start());
-    }
-    output_failed(Gathering::start())
 }
 
 // More is to be read.

@@ -1,7 +1,8 @@
 // The program that says why a rule misses. It reads the list in the folder where it is started, `rules.txt`, and
 // answers the lines of standard input on standard output: whether the rule whose number is its argument matches their
-// headers, or which field is the first to disagree, and what the rule says of it. What it answers is settled in proved
-// libraries; here bytes are moved.
+// headers, or which field is the first to disagree, and what the rule says of it. What it asks of the system, and what
+// it writes, is settled by the contract of `run`.
+use ledger::arguments::argument_count;
 use policy::file::MOST_FILE;
 use policy::list::Listed;
 use policy::list::take_list;
@@ -14,49 +15,40 @@ use system::load::RULES_FILE;
 use system::load::load;
 use system::out::say_verdict;
 use system::serve::serve_why;
-ghost use mathlib.Core.Bool.{true};
-ghost use mathlib.Core.Path.{_≡_};
 ghost use Rattle.console.specs.MissLines.{missAnswer};
-ghost use Rattle.policy.specs.Files.{ListOfFile};
-ghost use Rattle.system.specs.declared.arguments.Told.the-variants.{Number};
-ghost use Rattle.system.specs.Turns.{AllShort, LinesAnswered};
+ghost use Rattle.ledger.specs.Ledger.{Enters};
+ghost use Rattle.system.specs.Turns.{InputAnswered};
+ghost use Rattle.system.specs.Runs.{ByFile, WhyRan};
 
-// Nothing is written for wrong arguments.
+// The ledger is begun, and goes through the whole run.
 fn main() {
-    if os::arg_count() != 2 {
-        return;
+    let mut ledger = 0u64;
+    run(&mut ledger);
+}
+
+// Nothing is done for wrong arguments.
+fn run(ledger: &mut u64) -> bool
+    ensures { λ r. ⌜ Enters (WhyRan r) (now (ledger .entry)) (now (ledger .exit)) ⌝ }
+{
+    if argument_count(ledger) != 2 {
+        return true;
     }
-    let told = number_told();
-    match told {
-        Told::Wrong => {}
-        Told::Number(n) => answer(told, n as usize),
+    match number_told(ledger) {
+        Told::Wrong => true,
+        Told::Number(n) => answer(ledger, n as usize),
     }
 }
 
 // The text of the list is read into a buffer. A refused list ends the program.
-fn answer(told: Told, rule: usize)
-    requires { ⌜ told ≡ Number rule ⌝ }
+fn answer(ledger: &mut u64, rule: usize) -> bool
+    ensures { λ r. ⌜ Enters (ByFile (λ rs. InputAnswered (missAnswer rs rule)) r) (now (ledger .entry))
+        (now (ledger .exit)) ⌝ }
 {
     let mut buffer = [0u8; MOST_FILE];
     let mut rules = [0u32; MOST_RULES * RULE_WORDS];
-    let file = load(&RULES_FILE, &mut buffer);
+    let file = load(ledger, &RULES_FILE, &mut buffer);
     match take_list(file, &buffer, &mut rules) {
-        Listed::Refused(why) => {
-            say_verdict(Verdict::Refused(why));
-        }
-        Listed::Words { words } => {
-            answer_input(told, &rules[..words], rule);
-        }
+        Listed::Refused(why) => say_verdict(ledger, Verdict::Refused(why)),
+        Listed::Words { words } => serve_why(ledger, &rules[..words], rule),
     }
-}
-
-// Answers standard input, by the list of a file. There is room for each answer. It is told what was asked, and must be
-// handed exactly that rule.
-fn answer_input(told: Told, rules: &[u32], rule: usize) -> bool
-    requires { ⌜ told ≡ Number rule ⌝ }
-    requires { ⌜ ListOfFile (now rules) ⌝ }
-    requires { ⌜ AllShort (missAnswer (now rules) rule) ⌝ }
-    ensures { λ r. ⌜ LinesAnswered (missAnswer (now (rules .entry)) rule) true r ⌝ }
-{
-    serve_why(rules, rule)
 }

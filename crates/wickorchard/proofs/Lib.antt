@@ -1,2 +1,2 @@
--- The law of the program: who answers as the list does.
-pub mod Standing
+-- The law of the program: whoever serves answers as the list does.
+pub mod Serving

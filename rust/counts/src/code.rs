@@ -12,9 +12,11 @@ pub struct Function {
     pub lines: usize,
     /// Whether its contract asks anything of its caller.
     pub requires: bool,
-    /// The paths that its contract names, and those of them that an `ensures` does.
+    /// The paths that its contract names.
     pub cites: Vec<String>,
-    pub ensures: Vec<String>,
+    pub signature: String,
+    /// What stands behind the brace that opens its body.
+    pub body: String,
 }
 
 /// What is no line of code: comments, imports, and the names of modules.
@@ -56,8 +58,6 @@ fn function(krate: &str, file: &str, mut scope: Scope, lines: &[&str]) -> Functi
         scope.hide(parameter.trim());
     }
     let contract = lines[signed..body].join("\n");
-    let ensures: Vec<&str> =
-        contract.split("ensures ").skip(1).flat_map(|part| part.split("requires ").next()).collect();
     Function {
         krate: krate.to_string(),
         file: file.to_string(),
@@ -66,7 +66,8 @@ fn function(krate: &str, file: &str, mut scope: Scope, lines: &[&str]) -> Functi
         lines: lines.len(),
         requires: contract.contains("requires "),
         cites: scope.paths(&contract),
-        ensures: scope.paths(&ensures.join("\n")),
+        body: lines[body..].join("\n").split_once('{').map_or(String::new(), |(_, body)| body.to_string()),
+        signature,
     }
 }
 

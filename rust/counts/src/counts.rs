@@ -3,6 +3,7 @@
 use std::collections::{HashMap, HashSet};
 
 use crate::code::{self, Function};
+use crate::guards::{self, VECTORS};
 use crate::names::Scope;
 use crate::specs::{self, Definition};
 use crate::tree::Crate;
@@ -13,10 +14,14 @@ pub struct Counts {
     pub functions: Vec<Function>,
     /// The public calls, as places in `functions`.
     pub calls: Vec<usize>,
-    /// Who cites each definition first, itself or through others: 0 the public calls, 1 the claims besides, 2 other
-    /// public functions, 3 proofs alone.
+    /// Who cites each definition first, itself or through others: 0 the public calls, 1 the claims besides, 2 the runs
+    /// of the programs besides, 3 other public functions, 4 proofs alone.
     pub columns: Vec<usize>,
 }
+
+/// How many columns there are, and how many of them, from the first on, are to be believed.
+pub const COLUMNS: usize = 5;
+pub const BELIEVED: usize = 3;
 
 impl Counts {
     pub fn new(crates: Vec<Crate>) -> Result<Counts, String> {
@@ -31,6 +36,7 @@ impl Counts {
                 functions.extend(code::functions(&one.name, file, text));
             }
         }
+        guards::hold(&crates, &functions)?;
         let calls = calls(&crates, &functions)?;
         let lines = lines(claims(&crates, "Demand1")?);
         if let Some(at) = calls.iter().find(|at| !lines.contains(&functions[**at].name.replace('_', "-").as_str())) {
@@ -51,9 +57,11 @@ impl Counts {
             known.flat_map(|(at, one)| one.paths.iter().map(move |path| (path, at))).collect();
         let of_calls = self.calls.iter().flat_map(|at| &self.functions[*at].cites).collect();
         let claims = self.definitions.iter().filter(|one| one.krate == "claims").flat_map(|one| &one.paths).collect();
+        let runs = self.functions.iter().filter(|one| one.name == "run" && self.is_served(&one.krate));
+        let of_runs = runs.flat_map(|one| &one.cites).collect();
         let of_others = self.public().flat_map(|one| &one.cites).collect();
-        let mut columns = vec![3; self.definitions.len()];
-        for (column, cited) in [of_calls, claims, of_others].into_iter().enumerate() {
+        let mut columns = vec![COLUMNS - 1; self.definitions.len()];
+        for (column, cited) in [of_calls, claims, of_runs, of_others].into_iter().enumerate() {
             let mut cited: Vec<&String> = cited;
             while let Some(path) = cited.pop() {
                 match places.get(path) {
@@ -78,6 +86,11 @@ impl Counts {
 
     pub fn is_program(&self, krate: &str) -> bool {
         self.crates.iter().any(|one| one.name == krate && one.is_program())
+    }
+
+    /// Whether it is a program that is served, and not that of the examples.
+    pub fn is_served(&self, krate: &str) -> bool {
+        self.is_program(krate) && krate != VECTORS
     }
 
     /// The definitions of `specs/` that have these paths, each once.

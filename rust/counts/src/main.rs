@@ -8,6 +8,7 @@
 
 mod code;
 mod counts;
+mod guards;
 mod names;
 mod pages;
 mod specs;

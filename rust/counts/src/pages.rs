@@ -5,13 +5,14 @@
 
 use std::collections::BTreeMap;
 
-use crate::counts::Counts;
+use crate::code::Function;
+use crate::counts::{Counts, BELIEVED, COLUMNS};
+use crate::guards::{LEDGER, VECTORS};
 
 const END: &str = "<!-- end of counted -->";
 
-/// The library of what the programs ask of the system, and the program of examples, which is none of theirs.
+/// The library of what the programs do with the system.
 const SYSTEM: &str = "system";
-const VECTORS: &str = "vectors";
 
 /// A number with a comma before each three digits.
 pub fn number(n: usize) -> String {
@@ -53,12 +54,12 @@ pub fn with_files(page: &str, files: &BTreeMap<(String, String), usize>) -> Resu
     }
 }
 
-/// The lines of each file of `specs/` that are to be believed; of a program, which no call cites, all lines.
+/// The lines of each file of `specs/` that are to be believed.
 pub fn files(counts: &Counts) -> BTreeMap<(String, String), usize> {
     let mut files = BTreeMap::new();
     for (one, column) in counts.definitions.iter().zip(&counts.columns).filter(|(one, _)| !one.of_code) {
-        let believed = *column < 2 || counts.is_program(&one.krate);
-        *files.entry((one.krate.clone(), one.file.clone())).or_insert(0) += if believed { one.lines } else { 0 };
+        let lines = if *column < BELIEVED { one.lines } else { 0 };
+        *files.entry((one.krate.clone(), one.file.clone())).or_insert(0) += lines;
     }
     files
 }
@@ -85,7 +86,7 @@ fn table(head: &[&str], rows: impl Iterator<Item = Vec<String>>) -> String {
 
 /// README: the figures.
 pub fn figures(counts: &Counts) -> String {
-    let believed = number(counts.lines(|one, column| !one.of_code && column < 2));
+    let believed = number(counts.lines(|one, column| !one.of_code && column < BELIEVED));
     let claims = counts.lines(|one, _| one.krate == "claims");
     let programs = |vectors: bool| counts.code_lines(|one| one.is_program() && (one.name == VECTORS) == vectors);
     let rows = [
@@ -102,16 +103,17 @@ pub fn figures(counts: &Counts) -> String {
 
 /// AUDITOR: the lines of definitions, by crate and by who cites them.
 pub fn definitions(counts: &Counts) -> String {
-    let head = ["Crate", "the public calls", "the claims besides", "other public functions", "proofs alone"];
-    let row = |name: String, lines: [usize; 4]| [vec![name], lines.map(number).to_vec()].concat();
+    let by = ["the public calls", "the claims besides", "the runs besides", "other public functions", "proofs alone"];
+    let head = [&["Crate"], &by[..]].concat();
+    let row = |name: String, lines: [usize; COLUMNS]| [vec![name], lines.map(number).to_vec()].concat();
     let crates = counts.crates.iter().filter(|one| !one.specs.is_empty()).map(|krate| {
         let lines = |at| counts.lines(|one, column| !one.of_code && one.krate == krate.name && column == at);
         row(format!("`{}`", krate.name), std::array::from_fn(lines))
     });
-    let all: [usize; 4] = std::array::from_fn(|at| counts.lines(|one, column| !one.of_code && column == at));
-    let types = counts.lines(|one, column| one.of_code && column < 2);
+    let all: [usize; COLUMNS] = std::array::from_fn(|at| counts.lines(|one, column| !one.of_code && column == at));
+    let types = counts.lines(|one, column| one.of_code && column < BELIEVED);
     let table = table(&head, crates.chain([row("together".to_string(), all)]));
-    let (believed, lines) = (number(all[0] + all[1]), number(all.iter().sum()));
+    let (believed, lines) = (number(all[..BELIEVED].iter().sum()), number(all.iter().sum()));
     let types = format!("The enums and structs that they name are {types} lines of `src/`.");
     format!("{table}\nSo {believed} of {lines} lines are to be believed. {types}\n")
 }
@@ -130,19 +132,19 @@ pub fn calls(counts: &Counts) -> String {
     table(&["Call", "Its code", "Its contract cites"], rows)
 }
 
-/// AUDITOR: the functions of the programs, and of what they ask of the system, that have no `ensures` which cites a
-/// definition.
+/// AUDITOR: the functions that no contract fixes: those that call the system, and the `main` of each program.
 pub fn programs(counts: &Counts) -> String {
-    let theirs = |name: &str| name == SYSTEM || (counts.is_program(name) && name != VECTORS);
-    let unsaid = counts.functions.iter().filter(|one| theirs(&one.krate));
-    let unsaid: Vec<_> = unsaid.filter(|one| counts.cited(&one.ensures).next().is_none()).collect();
-    let rows = unsaid.chunk_by(|a, b| (&a.krate, &a.file) == (&b.krate, &b.file)).map(|same| {
+    let left = |one: &&Function| {
+        (one.krate == LEDGER && one.asks_system()) || (counts.is_served(&one.krate) && one.name == "main")
+    };
+    let left: Vec<_> = counts.functions.iter().filter(left).collect();
+    let rows = left.chunk_by(|a, b| (&a.krate, &a.file) == (&b.krate, &b.file)).map(|same| {
         let names: Vec<String> = same.iter().map(|one| format!("`{}`", one.name)).collect();
         let lines = same.iter().map(|one| one.lines).sum();
         vec![format!("`{}/src/{}.rt`", same[0].krate, same[0].file), names.join(", "), number(lines)]
     });
-    let lines = unsaid.iter().map(|one| one.lines).sum();
-    let all = counts.code_lines(|one| theirs(&one.name));
+    let lines = left.iter().map(|one| one.lines).sum();
+    let all = counts.code_lines(|one| [LEDGER, SYSTEM].contains(&one.name.as_str()) || counts.is_served(&one.name));
     let together = vec!["together".to_string(), String::new(), format!("{} of {all}", number(lines))];
     table(&["File", "Functions", "Lines"], rows.chain([together]))
 }

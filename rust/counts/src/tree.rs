@@ -12,6 +12,8 @@ pub type Files = BTreeMap<String, String>;
 #[derive(Default)]
 pub struct Crate {
     pub name: String,
+    /// The crates that `crates.txt` lets it name.
+    pub needs: Vec<String>,
     pub specs: Files,
     pub code: Files,
     pub proofs: Files,
@@ -22,15 +24,21 @@ impl Crate {
     pub fn is_program(&self) -> bool {
         self.code.contains_key("main")
     }
+
+    /// Whether it is that crate, or `crates.txt` lets it name that one.
+    pub fn may_name(&self, krate: &str) -> bool {
+        self.name == krate || self.needs.iter().any(|name| name == krate)
+    }
 }
 
 pub fn read(root: &Path) -> io::Result<Vec<Crate>> {
     let listed = fs::read_to_string(root.join("crates.txt"))?;
     let named = listed.lines().filter(|line| !line.starts_with('#')).filter_map(|line| line.split_once(':'));
-    let crates = named.map(|(name, _)| {
+    let crates = named.map(|(name, needs)| {
         let folder = root.join("crates").join(name);
         Ok(Crate {
             name: name.to_string(),
+            needs: needs.split_whitespace().map(str::to_string).collect(),
             specs: files(&folder.join("specs"), ".antt")?,
             code: files(&folder.join("src"), ".rt")?,
             proofs: files(&folder.join("proofs"), ".antt")?,

@@ -21,7 +21,8 @@ pub struct Tree<'a> {
 }
 
 /// What stands of a tree whose build was stopped: the words of its first nodes, with 0 for each right child that is not
-/// begun, and the entries of the leaves among them. It is no tree, so no search takes it; [`build_on`] goes on from it.
+/// begun, and the entries of the leaves among them. It is no tree, and the searches take a [`Tree`]; [`build_on`] goes
+/// on from it.
 #[derive(Clone, Copy, Debug)]
 pub struct Part<'a> {
     pub nodes: &'a [u32],

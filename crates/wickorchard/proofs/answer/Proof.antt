@@ -1,85 +1,79 @@
--- `wickorchard::answer` is safe, whoever serves answers as the list does, and an accepted tree has nothing to tell.
--- Assumes nothing.
-use mathlib.Core.Path.{sym}
+-- `wickorchard::answer` meets its contract: what is refused of the tree is told, and whoever serves answers as the list
+-- does. Assumes nothing.
+use native.Mathlib.Omega.{arith}
+use mathlib.Core.Path.{sym, ap, _∙_}
 use lib.Seq.{length-take-le}
+use borrow.Author.Tests.{not-true, not-false}
+use Rattle.policy.specs.declared.serving.Serving.{Serving}
+use Rattle.policy.proofs.Refusing.{serving-refused-as}
+use Rattle.system.proofs.Running.{served-untold, served-told}
+use Rattle.wickorchard.proofs.Serving.{serving-fits, serving-answers}
 use borrow.Author.Needs.{needs}
-use Rattle.wickorchard.proofs.Standing.{serving-handed, serving-fits, serving-told}
 use Rattle.wickorchard.proofs.answer.Statement.{statement}
 use Rattle.wickorchard.proofs.answer.Tie as tie
 
-slice-aggregate-load : tie.Need-slice-aggregate-load
-slice-aggregate-load c = search needs
-
-load-requires : tie.Need-load-requires
-load-requires c κs = search needs
-
-slice-aggregate-take-tree : tie.Need-slice-aggregate-take-tree
-slice-aggregate-take-tree c = search needs
-
-slice-aggregate-take-tree-2 : tie.Need-slice-aggregate-take-tree-2
-slice-aggregate-take-tree-2 c = search needs
-
-take-tree-requires : tie.Need-take-tree-requires
-take-tree-requires c κs = search needs
-
-slice-aggregate-who-serves : tie.Need-slice-aggregate-who-serves
-slice-aggregate-who-serves c = search needs
-
-slice-aggregate-who-serves-2 : tie.Need-slice-aggregate-who-serves-2
-slice-aggregate-who-serves-2 c = search needs
-
-who-serves-requires : tie.Need-who-serves-requires
-who-serves-requires c κs = search needs
-
-say-verdict-requires : tie.Need-say-verdict-requires
-say-verdict-requires c κs = search needs
+returns : tie.Need-returns
+returns c =
+    let far = c .before .before .before .before .before .before .before .before .before in
+    let start = far .before .before .before .before .before .before .before .before .before .before .before in
+    let load = far .before .before .before .before .before .load in
+    let take-tree = c .before .before .before .before .before .before .before .before .take-tree in
+    let who-serves = c .before .before .before .who-serves in
+    served-untold _ _ (omega (arith, start .pre)) (load .ensures) (ap (λ (s : Serving). s .refused)
+    (who-serves .ensures) ∙
+    serving-refused-as _ _ _ (omega arith) (omega arith) (take-tree .ensures)) (c .before .say-verdict .ensures)
+    (not-true _ (c .if1 .taken))
 
 array-share-prefix-nodes : tie.Need-array-share-prefix-nodes
-array-share-prefix-nodes c = serving-fits _ _ _ _ (c .before .who-serves .ensures) .0
+array-share-prefix-nodes c = serving-fits _ _ _ _ (c .before .before .before .before .who-serves .ensures) .0
 
-slice-aggregate-answer-input : tie.Need-slice-aggregate-answer-input
-slice-aggregate-answer-input c =
-    sym (length-take-le _ _ (serving-fits _ _ _ _ (c .before .before .who-serves .ensures) .0))
+slice-aggregate-serve : tie.Need-slice-aggregate-serve
+slice-aggregate-serve c =
+    let who-serves = c .before .before .before .before .before .who-serves in
+    sym (length-take-le _ _ (serving-fits _ _ _ _ (who-serves .ensures) .0))
 
 array-share-prefix-pool : tie.Need-array-share-prefix-pool
-array-share-prefix-pool c = serving-fits _ _ _ _ (c .before .before .who-serves .ensures) .1
+array-share-prefix-pool c = serving-fits _ _ _ _ (c .before .before .before .before .before .who-serves .ensures) .1
 
-slice-aggregate-answer-input-2 : tie.Need-slice-aggregate-answer-input-2
-slice-aggregate-answer-input-2 c =
-    let w = c .before .before .before in
-    sym (length-take-le _ _ (serving-fits _ _ _ _ (w .who-serves .ensures) .1))
+slice-aggregate-serve-2 : tie.Need-slice-aggregate-serve-2
+slice-aggregate-serve-2 c =
+    let who-serves = c .before .before .before .before .before .before .who-serves in
+    sym (length-take-le _ _ (serving-fits _ _ _ _ (who-serves .ensures) .1))
 
-answer-input-requires : tie.Need-answer-input-requires
-answer-input-requires c κs =
-    let serving = c .before .before .before in
-    let taken = serving .before .before .before .before .before in
-    let start = taken .before .before .before .before .before .before .before .before .before .before .before in
-    let who = serving .who-serves .ensures in
-    (serving-handed _ _ _ _ (start .pre) who, serving-told _ _ _ _ who (c .before .before .say-verdict .ensures))
-
-same-length : tie.Need-same-length
-same-length c = search needs
-
-returns : tie.Need-returns
-returns c = search needs
+returns-2 : tie.Need-returns-2
+returns-2 c =
+    let far = c .before .before .before .before .before .before .before .before .before in
+    let root = far .before .before .before .before .before .before .before .before .before in
+    let start = root .before .before .before .before .before .before in
+    let load = far .before .before .before .before .before .before .before .before .before .load in
+    let take-tree = far .before .before .before .take-tree in
+    let who-serves = c .before .before .before .before .before .before .before .who-serves in
+    let say-verdict = c .before .before .before .before .before .say-verdict in
+    let if1 = c .before .before .before .before .if1 in
+    served-told _ _ (omega (arith, start .pre)) (load .ensures) (ap (λ (s : Serving). s .refused)
+    (who-serves .ensures) ∙
+    serving-refused-as _ _ _ (omega arith) (omega arith) (take-tree .ensures)) (say-verdict .ensures) (not-false _
+    (if1 .left)) (serving-answers _ _ _ _ (who-serves .ensures)) (c .serve .ensures)
 
 pub answer-spec : {M : Type 1} → statement M
 answer-spec =
     tie.close
     (tie.spec
-    slice-aggregate-load
-    load-requires
-    slice-aggregate-take-tree
-    slice-aggregate-take-tree-2
-    take-tree-requires
-    slice-aggregate-who-serves
-    slice-aggregate-who-serves-2
-    who-serves-requires
-    say-verdict-requires
+    (λ c. search needs)
+    (λ c κs. search needs)
+    (λ c. search needs)
+    (λ c. search needs)
+    (λ c κs. search needs)
+    (λ c. search needs)
+    (λ c. search needs)
+    (λ c κs. search needs)
+    (λ c κs. search needs)
+    (λ c. search needs)
+    returns
     array-share-prefix-nodes
-    slice-aggregate-answer-input
+    slice-aggregate-serve
     array-share-prefix-pool
-    slice-aggregate-answer-input-2
-    answer-input-requires
-    same-length
-    returns)
+    slice-aggregate-serve-2
+    (λ c κs. search needs)
+    (λ c. search needs)
+    returns-2)

@@ -1,52 +1,51 @@
--- `compile::steps::write_first` hands on exactly what is due for a step from nothing. Assumes nothing.
+-- `compile::steps::write_first` meets its contract: what is due is handed out. Assumes nothing.
+use native.Mathlib.Omega.{arith}
+use mathlib.Core.Path.{sym}
+use lib.Seq.{length-take-le}
+use Rattle.system.proofs.Handing.{handed-as, due-text, due-refusal}
+use Rattle.policy.proofs.StepSize.{some-judged, step-room}
 use borrow.Author.Needs.{needs}
-use Rattle.policy.proofs.StepSize.{some-judged}
-use Rattle.compile.proofs.StepDue.{step-refusal-due, step-text-due}
 use Rattle.compile.proofs.steps.write_first.Statement.{statement}
 use Rattle.compile.proofs.steps.write_first.Tie as tie
 
-some-text-requires : tie.Need-some-text-requires
-some-text-requires c κs = search needs
+slice-reshare-prefix-say : tie.Need-slice-reshare-prefix-say
+slice-reshare-prefix-say c =
+    let some-text = c .before .before .before .before .before .before .some-text in
+    let bytes = c .before .before .bytes in
+    due-text _ _ _ (some-text .ensures) (bytes .given .1) .0
 
-enum-known-why : tie.Need-enum-known-why
-enum-known-why c = search needs
-
-say-first-requires : tie.Need-say-first-requires
-say-first-requires c κs =
-    let v = c .before .before .before .before .before in
-    let w = v .before .before .before .before in
-    step-refusal-due _ _ (some-judged _ _) (v .some-text .ensures) (c .before .why .given .1) (w .pre .1)
-
-enum-known-bytes : tie.Need-enum-known-bytes
-enum-known-bytes c = search needs
-
-write-some-requires : tie.Need-write-some-requires
-write-some-requires c κs =
-    let w = c .before .before in
-    step-text-due _ _ _ _ _ (w .before .before .before .before .some-text .ensures) (w .bytes .given .1)
-
-same-length : tie.Need-same-length
-same-length c = search needs
+slice-aggregate-say : tie.Need-slice-aggregate-say
+slice-aggregate-say c =
+    let some-text = c .before .before .before .before .before .before .before .some-text in
+    let bytes = c .before .before .before .bytes in
+    sym (length-take-le _ _ (due-text _ _ _ (some-text .ensures) (bytes .given .1) .0))
 
 returns : tie.Need-returns
-returns c = search needs
-
-same-length-2 : tie.Need-same-length-2
-same-length-2 c = search needs
+returns c =
+    let start = c .before .before .before .before .before .before .before .before .before .before .before in
+    let some-text = c .before .before .before .before .before .before .before .some-text in
+    let why = c .before .before .before .why in
+    handed-as (due-refusal _ _ _ (some-text .ensures) (step-room _ (some-judged _ _) _ (omega (arith, start .pre)))
+    (why .given .1)) (c .say-verdict .ensures)
 
 returns-2 : tie.Need-returns-2
-returns-2 c = search needs
+returns-2 c =
+    let some-text = c .before .before .before .before .before .before .before .before .some-text in
+    let bytes = c .before .before .before .before .bytes in
+    handed-as (due-text _ _ _ (some-text .ensures) (bytes .given .1) .1) (c .say .ensures)
 
 pub write-first-spec : {M : Type 1} → statement M
 write-first-spec =
     tie.close
     (tie.spec
-    some-text-requires
-    enum-known-why
-    say-first-requires
-    enum-known-bytes
-    write-some-requires
-    same-length
+    (λ c κs. search needs)
+    (λ c. search needs)
+    (λ c κs. search needs)
+    (λ c. search needs)
+    slice-reshare-prefix-say
+    slice-aggregate-say
+    (λ c κs. search needs)
+    (λ c. search needs)
     returns
-    same-length-2
+    (λ c. search needs)
     returns-2)

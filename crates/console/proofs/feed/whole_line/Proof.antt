@@ -25,7 +25,7 @@ returns c =
     let test = line .before .before .before in
     let w = test .before .before .before .before .before in
     let over = reply-over _ (gathering (w .args .t5) (w .args .count) (w .args .lines)) (test .if1 .taken) in
-    said-same (ap refusedLine (line .before .before .wrong .ensures) ∙ over) (line .refused-line .ensures)
+    said-same (ap refusedLine (line .before .before .wrong .ensures) ∙ over) (line .refused-line .ensures .0)
 
 array-share-prefix-held : tie.Need-array-share-prefix-held
 array-share-prefix-held c = omega (arith, c .before .before .before .before .before .good .1 .1 .1 .1 .0)

@@ -50,7 +50,7 @@ returns c =
     let line = c .before .before in
     let told = line .before .before .before in
     said-same (found-refused (told .before .before .before .search .ensures) (told .why .given .1))
-    (line .refused-line .ensures)
+    (line .refused-line .ensures .0)
 
 same-length-2 : tie.Need-same-length-2
 same-length-2 c = search needs

@@ -28,7 +28,7 @@ returns c =
     let line = c .before .before in
     let told = line .before .before .before in
     said-same (miss-refused _ _ _ (told .before .before .rule-misses .ensures) (told .why .given .1))
-    (line .refused-line .ensures)
+    (line .refused-line .ensures .0)
 
 same-length-2 : tie.Need-same-length-2
 same-length-2 c = search needs

@@ -26,7 +26,7 @@ returns c =
     let said = c .before .before in
     let test = said .before .before .before in
     let none = none-asked _ _ _ (test .before .before .before .head-in .ensures) (failed refl (test .if1 .taken)) in
-    said-same (ap refusedLine (said .before .before .wrong .ensures) ∙ none) (said .refused-line .ensures)
+    said-same (ap refusedLine (said .before .before .wrong .ensures) ∙ none) (said .refused-line .ensures .0)
 
 slice-aggregate-answer-asked : tie.Need-slice-aggregate-answer-asked
 slice-aggregate-answer-asked c = search needs

@@ -21,8 +21,8 @@ same-length c = search needs
 returns : tie.Need-returns
 returns c =
     let p = c .before .before .before in
-    said-short (omega (arith, p .put-refused .ensures .1)) (p .put-refused .ensures .0) (p .put-refused .kept .1 .0)
-    (c .if1 .taken)
+    let few = p .put-refused .ensures .1 in
+    (said-short (omega (arith, few)) (p .put-refused .ensures .0) (p .put-refused .kept .1 .0) (c .if1 .taken), few)
 
 put-refused-requires-2 : tie.Need-put-refused-requires-2
 put-refused-requires-2 c κs = search needs
@@ -34,8 +34,11 @@ returns-2 : tie.Need-returns-2
 returns-2 c =
     let q = c .before .before in
     let p = q .before .before .before .before .before in
-    said-put (omega (arith, p .put-refused .ensures .1)) (p .put-refused .ensures .0) (p .put-refused .kept .1 .0)
-    (q .before .before .if1 .left) (q .put-refused2 .ensures .0)
+    let few = p .put-refused .ensures .1 in (
+      said-put (omega (arith, few)) (p .put-refused .ensures .0) (p .put-refused .kept .1 .0)
+          (q .before .before .if1 .left) (q .put-refused2 .ensures .0),
+      few,
+    )
 
 pub refused-line-spec : {M : Type 1} → statement M
 refused-line-spec =

@@ -1,5 +1,7 @@
 -- `policy::line::verdict_line` meets its contract: a verdict that is fine has no line. Assumes nothing.
+use native.Mathlib.Omega.{arith}
 use mathlib.Core.Path.{sym, ap}
+use lib.ListN.{length}
 use borrow.Author.Needs.{needs}
 use Rattle.text.proofs.Said.{said-nothing, said-same}
 use Rattle.policy.specs.Output.{verdictLine}
@@ -16,7 +18,9 @@ refused-line-requires : tie.Need-refused-line-requires
 refused-line-requires c κs = search needs
 
 returns : tie.Need-returns
-returns c = said-same (ap verdictLine (sym (c .enum-told .given .1))) (said-nothing _)
+returns c =
+    let line = ap verdictLine (sym (c .enum-told .given .1)) in
+    (said-same line (said-nothing _), omega (arith, ap length line))
 
 same-length : tie.Need-same-length
 same-length c = search needs
@@ -24,7 +28,9 @@ same-length c = search needs
 returns-2 : tie.Need-returns-2
 returns-2 c =
     let w = c .before .before .before .before .before in
-    said-same (ap verdictLine (sym (w .verdict .given .1))) (c .before .before .refused-line .ensures)
+    let line = ap verdictLine (sym (w .verdict .given .1)) in
+    let said = c .before .before .refused-line .ensures in
+    (said-same line (said .0), omega (arith, ap length line, said .1))
 
 pub verdict-line-spec : {M : Type 1} → statement M
 verdict-line-spec =

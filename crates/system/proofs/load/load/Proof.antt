@@ -1,33 +1,40 @@
--- `system::load::load` meets its contract: what was read stands within the buffer. Assumes nothing.
-use borrow.Author.Needs.{needs}
+-- `system::load::load` meets its contract: the file is opened, read on, and closed. Assumes nothing.
+use mathlib.Core.Path.{sym, _∙_}
+use borrow.Author.Tests.{not-true, not-false}
+use Rattle.ledger.specs.Ledger.{opened}
+use Rattle.ledger.proofs.Entering.{enters-one}
+use Rattle.system.specs.Files.{unopened}
 use Rattle.system.proofs.Loading.{file-loaded}
+use borrow.Author.Needs.{needs}
 use Rattle.system.proofs.load.load.Statement.{statement}
 use Rattle.system.proofs.load.load.Tie as tie
 
-open-read-requires : tie.Need-open-read-requires
-open-read-requires c κs = search needs
-
 returns : tie.Need-returns
-returns c = search needs
-
-read-on-requires : tie.Need-read-on-requires
-read-on-requires c κs = search needs
-
-close-requires : tie.Need-close-requires
-close-requires c κs = search needs
-
-file-requires : tie.Need-file-requires
-file-requires c κs = search needs
-
-same-length : tie.Need-same-length
-same-length c = search needs
+returns c =
+    let open-file = c .before .before .open-file in
+    enters-one (opened _ _) (open-file .ensures) (unopened (sym (c .before .is-open .ensures) ∙ not-true _
+    (c .if1 .taken)))
 
 returns-2 : tie.Need-returns-2
 returns-2 c =
-    let read = c .before .before .before .before in
-    file-loaded (read .read-on .result) _ (c .file .ensures) (read .read-on .ensures)
+    let far = c .before .before .before .before .before .before .before .before .before in
+    let open-file = far .before .open-file in
+    let is-open = far .is-open in
+    let if1 = c .before .before .before .before .before .before .before .before .if1 in
+    let read-on = c .before .before .before .before .before .read-on in
+    file-loaded _ (read-on .last .1 .1 .0) (read-on .result) (sym (is-open .ensures) ∙ not-false _ (if1 .left))
+    (c .file .ensures)
+    (open-file .ensures) (read-on .ensures) (c .before .close-file .ensures)
 
 pub load-spec : {M : Type 1} → statement M
 load-spec =
     tie.close
-    (tie.spec open-read-requires returns read-on-requires close-requires file-requires same-length returns-2)
+    (tie.spec
+    (λ c κs. search needs)
+    (λ c κs. search needs)
+    returns
+    (λ c κs. search needs)
+    (λ c κs. search needs)
+    (λ c κs. search needs)
+    (λ c. search needs)
+    returns-2)

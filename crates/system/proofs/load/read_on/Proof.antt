@@ -3,86 +3,84 @@
 use Prim.Native.Nat.{_≤_}
 use native.Mathlib.Omega.{arith}
 use mathlib.Core.Path.{_≡_, refl, sym, ap, _∙_}
+use mathlib.Core.Logic.{⊎-elim}
 use lib.ListN.{length}
+use Rattle.facts.proofs.Bools.{clash}
+use Rattle.ledger.specs.Ledger.{Enters, read}
+use Rattle.ledger.proofs.Entering.{enters-none, enters-last, enters-as, enters-then}
 use Rattle.system.specs.declared.load.Reads.{Reads}
-use Rattle.system.proofs.Loading.{left, part-fits, part-within, part-falls}
+use Rattle.system.proofs.Loading.{left, as-long, part-fits, part-within, part-falls}
+use Rattle.system.proofs.Loading.{Head, head-first, head-step, head-over, head-past}
 use Rattle.system.proofs.load.read_on.Statement.{statement}
 use Rattle.system.proofs.load.read_on.Tie as tie
 
 abbrev Inv-loop : tie.InvT-loop
-Inv-loop fd buffer₀ reads₀ done₀ buffer reads done =
-    (done ≡ reads .done) × (done ≤ length buffer) × (length buffer ≡ length buffer₀)
+Inv-loop ledger₀ fd buffer₀ reads₀ ledger buffer reads =
+    (reads .done ≤ length buffer) × (length buffer ≡ length buffer₀) × Enters (Head fd buffer reads) ledger₀ ledger
 
 abbrev μ-loop : tie.MeasureT-loop
-μ-loop fd buffer₀ reads₀ done₀ buffer reads done = left (length buffer) reads
-
-start-requires : tie.Need-start-requires Inv-loop μ-loop
-start-requires c κs = tt
+μ-loop ledger₀ fd buffer₀ reads₀ ledger buffer reads = left (length buffer) reads
 
 loop-holds : tie.Need-loop-holds Inv-loop μ-loop
-loop-holds c = let zero = ap (λ r. r .done) (c .start .ensures) in (sym zero, omega arith, omega arith)
-
-more-requires : tie.Need-more-requires Inv-loop μ-loop
-more-requires c κs = tt
-
-sub-read-some : tie.Need-sub-read-some Inv-loop μ-loop
-sub-read-some c = omega arith
-
-part-read-some-start : tie.Need-part-read-some-start Inv-loop μ-loop
-part-read-some-start c = omega arith
-
-part-read-some-end : tie.Need-part-read-some-end Inv-loop μ-loop
-part-read-some-end c = omega arith
-
-read-some-requires : tie.Need-read-some-requires Inv-loop μ-loop
-read-some-requires c κs = tt
+loop-holds c =
+    let zero = ap (λ (r : Reads). r .done) (c .start .ensures) in (
+      omega (arith, zero),
+      refl,
+      enters-none
+          (head-first _ _ (c .start .ensures)),
+    )
 
 next-requires : tie.Need-next-requires Inv-loop μ-loop
 next-requires c κs =
-    let part = c .before .before in let read = part .read-some in
-    let here = part .before .before .before .before .before .loop in
-    part-fits (here .buffer) (read .last .1 .0) (here .reads) (here .inv .0) (here .inv .1) (omega arith)
-    (read .result) (omega arith) (read .ensures)
+    let loop = c .before .before .before .before .before .before .before .before .before .loop in
+    let read-some = c .before .before .read-some in
+    part-fits (loop .buffer) (read-some .last .1 .1 .0) (loop .reads) (omega arith) (omega arith) (read-some .result)
+    (omega arith) (read-some .ensures .1)
 
 loop-less : tie.Need-loop-less Inv-loop μ-loop
 loop-less c =
-    let part = c .before .before .before in let read = part .read-some in
-    let test = part .before .before in let here = test .before .before .before .loop in
-    let size = c .before .before .buffer .given .1 in
-    part-falls (here .buffer) (read .last .1 .0) (here .reads) (here .inv .0) (here .inv .1) (omega arith)
-    (read .result) (omega (arith, size)) (sym (test .before .more .ensures) ∙ test .if1 .taken) (c .next .ensures)
-    (read .ensures)
+    let loop = c .before .before .before .before .before .before .before .before .before .before .loop in
+    let more = c .before .before .before .before .before .before .before .more in
+    let if2 = c .before .before .before .before .before .before .if2 in
+    let read-some = c .before .before .before .read-some in
+    part-falls (loop .buffer) (read-some .last .1 .1 .0) (loop .reads) (omega arith) (omega arith) (read-some .result)
+    (as-long (loop .buffer) (read-some .last .1 .1 .0) (loop .reads) (omega arith) (omega arith)) (sym (more .ensures) ∙
+    if2 .taken) (c .next .ensures) (read-some .ensures .1)
 
 loop-again : tie.Need-loop-again Inv-loop μ-loop
 loop-again c =
-    let part = c .before .before .before in let read = part .read-some in
-    let here = part .before .before .before .before .before .loop in
-    let size = c .before .before .buffer .given .1 in
-    let within =
-    part-within (here .buffer) (read .last .1 .0) (here .reads) (here .inv .0) (here .inv .1) (omega arith)
-    (read .result) (c .next .ensures) (read .ensures) in
-    (refl, omega (arith, within, size), omega (arith, size))
-
-more-requires-2 : tie.Need-more-requires-2 Inv-loop μ-loop
-more-requires-2 c κs = tt
-
-read-next-requires : tie.Need-read-next-requires Inv-loop μ-loop
-read-next-requires c κs = tt
-
-past-requires : tie.Need-past-requires Inv-loop μ-loop
-past-requires c κs = tt
-
-same-length : tie.Need-same-length Inv-loop μ-loop
-same-length c = omega arith
+    let far = c .before .before .before .before .before .before .before .before .before in
+    let loop = far .before .loop in
+    let more = c .before .before .before .before .before .before .before .more in
+    let if2 = c .before .before .before .before .before .before .if2 in
+    let read-some = c .before .before .before .read-some in
+    let l = loop in let b = l .buffer in let p = read-some .last .1 .1 .0 in let size = as-long b p (l .reads)
+    (omega arith) (omega arith) in let inside = part-within b p (l .reads) (omega arith) (omega arith)
+    (read-some .result)
+    (c .next .ensures) (read-some .ensures .1) in (
+      omega (arith, inside, size),
+      size ∙ l .inv .1,
+      enters-last (read _ _ _ _)
+          (l .inv .2) (read-some .ensures .0) (head-step b p (l .reads) (omega arith) (omega arith)
+          (read-some .result) (c .next .ensures)
+          (sym (more .ensures) ∙ if2 .taken) (read-some .ensures .1)),
+    )
 
 returns : tie.Need-returns Inv-loop μ-loop
-returns c = let kept = ap (λ (r : Reads). r .done) (c .past .ensures) in omega (arith, kept)
-
-same-length-2 : tie.Need-same-length-2 Inv-loop μ-loop
-same-length-2 c = omega arith
+returns c =
+    let loop = c .before .before .before .before .before .before .before .loop in
+    let if1 = c .before .before .before .before .before .if1 in
+    let more2 = c .before .before .before .before .more2 in
+    let if3 = c .before .before .before .if3 in
+    enters-then (loop .inv .2) (c .before .read-next .ensures) (head-past _ _ (⊎-elim (λ w. clash (sym
+    (more2 .ensures) ∙
+    if3 .taken) (sym (w .1 .ensures) ∙ w .2 .left)) (λ w. w .left) (if1 .came)) (sym (more2 .ensures) ∙ if3 .taken)
+    (c .past .ensures))
 
 returns-2 : tie.Need-returns-2 Inv-loop μ-loop
-returns-2 c = omega arith
+returns-2 c =
+    let loop = c .before .before .before .before .loop in
+    enters-as (loop .inv .2) (head-over (sym (c .before .more2 .ensures) ∙ c .if3 .left))
 
 pub read-on-spec : {M : Type 1} → statement M
 read-on-spec =
@@ -90,20 +88,20 @@ read-on-spec =
     (tie.spec
     Inv-loop
     μ-loop
-    start-requires
+    (λ c κs. tt)
     loop-holds
-    more-requires
-    sub-read-some
-    part-read-some-start
-    part-read-some-end
-    read-some-requires
+    (λ c κs. tt)
+    (λ c. omega arith)
+    (λ c. omega arith)
+    (λ c. omega arith)
+    (λ c κs. tt)
     next-requires
     loop-less
     loop-again
-    more-requires-2
-    read-next-requires
-    past-requires
-    same-length
+    (λ c κs. tt)
+    (λ c κs. tt)
+    (λ c κs. tt)
+    (λ c. omega arith)
     returns
-    same-length-2
+    (λ c. omega arith)
     returns-2)

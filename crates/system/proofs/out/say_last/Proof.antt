@@ -1,30 +1,24 @@
--- `system::out::say_last` hands on exactly what is due at the end. Assumes nothing.
+-- `system::out::say_last` meets its contract: there is room for the line. Assumes nothing.
+use Rattle.ledger.proofs.Entering.{enters-as}
+use Rattle.system.proofs.Handing.{said-within, said-handed}
 use borrow.Author.Needs.{needs}
-use Rattle.system.proofs.Standing.{said-holds}
 use Rattle.system.proofs.out.say_last.Statement.{statement}
 use Rattle.system.proofs.out.say_last.Tie as tie
 
-slice-aggregate-last-line : tie.Need-slice-aggregate-last-line
-slice-aggregate-last-line c = search needs
-
-last-line-requires : tie.Need-last-line-requires
-last-line-requires c κs = search needs
-
-slice-aggregate-write-last : tie.Need-slice-aggregate-write-last
-slice-aggregate-write-last c = search needs
-
-write-last-requires : tie.Need-write-last-requires
-write-last-requires c κs = said-holds _ (c .before .before .last-line .ensures)
+say-written-requires : tie.Need-say-written-requires
+say-written-requires c κs = said-within _ (c .before .before .before .last-reply .ensures .0)
 
 returns : tie.Need-returns
-returns c = search needs
+returns c =
+    let last-reply = c .before .before .before .before .last-reply in
+    enters-as (c .say-written .ensures) (said-handed _ (last-reply .ensures .0) (last-reply .ensures .1))
 
 pub say-last-spec : {M : Type 1} → statement M
 say-last-spec =
     tie.close
     (tie.spec
-    slice-aggregate-last-line
-    last-line-requires
-    slice-aggregate-write-last
-    write-last-requires
+    (λ c. search needs)
+    (λ c κs. search needs)
+    (λ c. search needs)
+    say-written-requires
     returns)

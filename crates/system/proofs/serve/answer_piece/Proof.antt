@@ -1,107 +1,98 @@
 -- `system::serve::answer_piece` meets its contract: each turn of the loop takes some bytes of the piece, has their
 -- replies written, and goes on from the line that they leave gathered. Assumes nothing.
-use Prim.Native.Nat.{_+_, _-_, _≤_}
+use Prim.Native.Nat.{_-_}
 use native.Mathlib.Omega.{arith}
-use mathlib.Core.Path.{_≡_}
+use mathlib.Core.Path.{_≡_, sym}
 use lib.ListN.{length}
-use Rattle.system.specs.Turns.{unwritten, unfit}
-use Rattle.system.proofs.Turning.{Head, head-first, head-last, head-within, head-step}
-use Rattle.system.proofs.Turning.{head-front, head-unfit}
+use lib.Seq.{length-take-le}
+use borrow.Author.Tests.{not-true, not-false}
+use Rattle.ledger.specs.Ledger.{Enters}
+use Rattle.ledger.proofs.Entering.{enters-none, enters-as, enters-then}
+use Rattle.system.specs.Turns.{answerFor}
+use Rattle.system.proofs.Turning.{Head, head-first, head-last, head-front, head-unfit, head-within}
+use Rattle.system.proofs.Turning.{head-step, head-unwritten}
 use Rattle.system.proofs.serve.answer_piece.Statement.{statement}
 use Rattle.system.proofs.serve.answer_piece.Tie as tie
 
 abbrev Inv-loop : tie.InvT-loop
-Inv-loop rules nodes pool asked from piece out₀ gathering₀ at₀ out gathering at =
-    Head from piece gathering at × (length out ≡ length out₀)
+Inv-loop ledger₀ rules nodes pool asked from piece out₀ gathering₀ at₀ ledger out gathering at =
+    Enters (Head (answerFor asked rules nodes pool) from piece gathering at) ledger₀ ledger × (length out ≡ length out₀)
 
 abbrev μ-loop : tie.MeasureT-loop
-μ-loop rules nodes pool asked from piece out₀ gathering₀ at₀ out gathering at = length piece - at
-
--- the loop, from where bytes are fed
-abbrev turn : tie.After-feed-asked Inv-loop μ-loop → tie.At-loop Inv-loop μ-loop
-turn c = c .before .before .before .before
-
--- a turn takes no more than what is left of the piece
-within :
-    (c : tie.After-feed-asked Inv-loop μ-loop) →
-    let start = turn c .before .before .before .before .before .before in
-    turn c .loop .at + c .feed-asked .result .taken ≤ length (start .args .piece .now)
-within c = head-within (turn c .loop .inv .0) (c .feed-asked .ensures .0) (c .feed-asked .ensures .1 .0)
+μ-loop ledger₀ rules nodes pool asked from piece out₀ gathering₀ at₀ ledger out gathering at = length piece - at
 
 loop-holds : tie.Need-loop-holds Inv-loop μ-loop
-loop-holds c = (head-first _ _, omega arith)
+loop-holds c = (enters-none (head-first _ _ _), omega arith)
 
 sub-feed-asked : tie.Need-sub-feed-asked Inv-loop μ-loop
-sub-feed-asked c = omega arith
+sub-feed-asked c = omega (arith, c .before .loop .inv .0 .are .within)
 
 part-feed-asked-start : tie.Need-part-feed-asked-start Inv-loop μ-loop
-part-feed-asked-start c = omega arith
+part-feed-asked-start c = omega (arith, c .before .loop .inv .0 .are .within)
 
 part-feed-asked-end : tie.Need-part-feed-asked-end Inv-loop μ-loop
-part-feed-asked-end c = omega arith
-
-feed-asked-requires : tie.Need-feed-asked-requires Inv-loop μ-loop
-feed-asked-requires c κs = tt
-
-output-failed-requires : tie.Need-output-failed-requires Inv-loop μ-loop
-output-failed-requires c κs = tt
-
-same-length : tie.Need-same-length Inv-loop μ-loop
-same-length c = omega arith
+part-feed-asked-end c = omega (arith, c .before .loop .inv .0 .are .within)
 
 returns : tie.Need-returns Inv-loop μ-loop
 returns c =
-    let fed = c .before .before .before .before .before in
-    let here = turn fed in
-    unfit (c .output-failed .ensures)
-    (head-unfit (here .loop .inv .0) (fed .feed-asked .ensures .0) (omega arith) (omega arith) (c .before .if1 .taken))
+    enters-as (c .before .before .before .before .before .before .before .before .before .loop .inv .0)
+    (λ es t.
+    head-unfit t (c .before .before .before .before .before .feed-asked .ensures .0) (omega arith) (omega arith)
+    (c .before .if1 .taken) (c .output-failed .ensures))
 
-add-end : tie.Need-add-end Inv-loop μ-loop
-add-end c =
-    let fed = c .before .before .before .before .before in
-    omega (arith, within fed, turn fed .before .before .before .before .before .before .good)
+slice-reshare-prefix-say : tie.Need-slice-reshare-prefix-say Inv-loop μ-loop
+slice-reshare-prefix-say c =
+    let loop = c .before .before .before .before .before .before .before .before .before .loop in
+    let feed-asked = c .before .before .before .before .before .feed-asked in
+    head-front (loop .inv .0 .are) (feed-asked .ensures .0) .0
 
-sub-write-replies : tie.Need-sub-write-replies Inv-loop μ-loop
-sub-write-replies c = omega arith
-
-part-write-replies-start : tie.Need-part-write-replies-start Inv-loop μ-loop
-part-write-replies-start c = omega arith
-
-part-write-replies-end : tie.Need-part-write-replies-end Inv-loop μ-loop
-part-write-replies-end c = omega (arith, within (c .before .before .before .before .before))
-
-write-replies-requires : tie.Need-write-replies-requires Inv-loop μ-loop
-write-replies-requires c κs =
-    let fed = c .before .before .before .before .before .before .before in
-    head-front (turn fed .loop .inv .0) (fed .feed-asked .ensures .0) (fed .feed-asked .ensures .1 .0)
-
-output-failed-requires-2 : tie.Need-output-failed-requires-2 Inv-loop μ-loop
-output-failed-requires-2 c κs = tt
-
-same-length-2 : tie.Need-same-length-2 Inv-loop μ-loop
-same-length-2 c = omega arith
+slice-aggregate-say : tie.Need-slice-aggregate-say Inv-loop μ-loop
+slice-aggregate-say c =
+    let loop = c .before .before .before .before .before .before .before .before .before .before .loop in
+    let feed-asked = c .before .before .before .before .before .before .feed-asked in
+    sym (length-take-le _ _ (head-front (loop .inv .0 .are) (feed-asked .ensures .0) .0))
 
 returns-2 : tie.Need-returns-2 Inv-loop μ-loop
-returns-2 c = unwritten (c .output-failed2 .ensures)
+returns-2 c =
+    let far = c .before .before .before .before .before .before .before .before .before in
+    let loop = far .before .before .before .before .loop in
+    let feed-asked = far .feed-asked in
+    let say = c .before .before .say in
+    enters-then (loop .inv .0) (say .ensures) (λ es ws t h. head-unwritten t (feed-asked .ensures .0)
+    (feed-asked .ensures .1 .0)
+    (not-true _ (c .before .if2 .taken)) (c .output-failed2 .ensures) ws h)
+
+add-at : tie.Need-add-at Inv-loop μ-loop
+add-at c =
+    let far = c .before .before .before .before .before .before .before .before .before in
+    let start = far .before .before .before .before .before .before .before .before .before .before .before in
+    let loop = far .before .before .before .before .before .loop in
+    let feed-asked = far .before .feed-asked in
+    omega (arith, head-within (loop .inv .0 .are) (feed-asked .ensures .0) (feed-asked .ensures .1 .0), start .good)
 
 loop-less : tie.Need-loop-less Inv-loop μ-loop
 loop-less c =
-    let test = c .before .before .before .before .before .before in
-    omega (arith, within (test .before .before .before .before), test .if1 .left)
+    let far = c .before .before .before .before .before .before .before .before .before in
+    let loop = far .before .before .before .before .before .loop in
+    let feed-asked = far .before .feed-asked in
+    let if1 = c .before .before .before .before .before .before .if1 in
+    omega (arith, head-within (loop .inv .0 .are) (feed-asked .ensures .0) (feed-asked .ensures .1 .0), if1 .left)
 
 loop-again : tie.Need-loop-again Inv-loop μ-loop
 loop-again c =
-    let fed = c .before .before .before .before .before .before .before .before .before .before in
-    (head-step (turn fed .loop .inv .0) (fed .feed-asked .ensures .0) (fed .feed-asked .ensures .1 .0), omega arith)
-
-more-to-read-requires : tie.Need-more-to-read-requires Inv-loop μ-loop
-more-to-read-requires c κs = tt
-
-same-length-3 : tie.Need-same-length-3 Inv-loop μ-loop
-same-length-3 c = omega arith
+    let far = c .before .before .before .before .before .before .before .before .before in
+    let loop = far .before .before .before .before .before .loop in
+    let feed-asked = far .before .feed-asked in
+    let say = c .before .before .before .say in
+    let if2 = c .before .before .if2 in (
+      enters-then (loop .inv .0) (say .ensures) (λ es ws t h. head-step t (feed-asked .ensures .0)
+          (feed-asked .ensures .1 .0)
+          (not-false _ (if2 .left)) ws h),
+      omega arith,
+    )
 
 returns-3 : tie.Need-returns-3 Inv-loop μ-loop
-returns-3 c = head-last (c .before .before .loop .inv .0) (omega arith) (c .more-to-read .ensures)
+returns-3 c = enters-as (c .before .before .loop .inv .0) (head-last (omega arith) (c .more-to-read .ensures))
 
 pub answer-piece-spec : {M : Type 1} → statement M
 answer-piece-spec =
@@ -113,20 +104,19 @@ answer-piece-spec =
     sub-feed-asked
     part-feed-asked-start
     part-feed-asked-end
-    feed-asked-requires
-    output-failed-requires
-    same-length
+    (λ c κs. tt)
+    (λ c κs. tt)
+    (λ c. omega arith)
     returns
-    add-end
-    sub-write-replies
-    part-write-replies-start
-    part-write-replies-end
-    write-replies-requires
-    output-failed-requires-2
-    same-length-2
+    slice-reshare-prefix-say
+    slice-aggregate-say
+    (λ c κs. tt)
+    (λ c κs. tt)
+    (λ c. omega arith)
     returns-2
+    add-at
     loop-less
     loop-again
-    more-to-read-requires
-    same-length-3
+    (λ c κs. tt)
+    (λ c. omega arith)
     returns-3)

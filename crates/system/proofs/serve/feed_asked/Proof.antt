@@ -5,29 +5,11 @@ use Rattle.system.proofs.Turning.{asked-fed}
 use Rattle.system.proofs.serve.feed_asked.Statement.{statement}
 use Rattle.system.proofs.serve.feed_asked.Tie as tie
 
-enum-known-asked : tie.Need-enum-known-asked
-enum-known-asked c = search needs
-
-feed-requires : tie.Need-feed-requires
-feed-requires c κs = search needs
-
-enum-known-asked-2 : tie.Need-enum-known-asked-2
-enum-known-asked-2 c = search needs
-
-feed-why-requires : tie.Need-feed-why-requires
-feed-why-requires c κs = search needs
-
-same-length : tie.Need-same-length
-same-length c = search needs
-
 returns : tie.Need-returns
 unfolding answerFor
 returns c =
     let fed = c .before .before in
     (asked-fed _ _ _ (fed .before .before .before .asked .given .1) (fed .feed .ensures .0), fed .feed .ensures .1)
-
-same-length-2 : tie.Need-same-length-2
-same-length-2 c = search needs
 
 returns-2 : tie.Need-returns-2
 unfolding answerFor
@@ -40,11 +22,11 @@ pub feed-asked-spec : {M : Type 1} → statement M
 feed-asked-spec =
     tie.close
     (tie.spec
-    enum-known-asked
-    feed-requires
-    enum-known-asked-2
-    feed-why-requires
-    same-length
+    (λ c. search needs)
+    (λ c κs. search needs)
+    (λ c. search needs)
+    (λ c κs. search needs)
+    (λ c. search needs)
     returns
-    same-length-2
+    (λ c. search needs)
     returns-2)

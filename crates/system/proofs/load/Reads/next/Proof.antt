@@ -3,23 +3,14 @@ use native.Mathlib.Omega.{arith}
 use mathlib.Core.Path.{subst}
 use borrow.Author.Needs.{needs}
 use Rattle.system.proofs.Loading.{next-failed, next-ended, next-bytes}
-use Rattle.system.specs.Files.{Fits}
+use Rattle.system.specs.Files.{ReadFits}
 use Rattle.system.proofs.load.Reads.next.Statement.{statement}
 use Rattle.system.proofs.load.Reads.next.Tie as tie
-
-enum-told : tie.Need-enum-told
-enum-told c = search needs
-
-enum-told-2 : tie.Need-enum-told-2
-enum-told-2 c = search needs
-
-enum-known-got : tie.Need-enum-known-got
-enum-known-got c = search needs
 
 add-t6 : tie.Need-add-t6
 add-t6 c =
     let w = c .before .before .before in
-    let fits = subst (Fits (w .args .self .done)) (c .before .got .given .1) (w .pre) in
+    let fits = subst (ReadFits (w .args .self .done)) (c .before .got .given .1) (w .pre) in
     omega (arith, fits)
 
 returns : tie.Need-returns
@@ -33,4 +24,4 @@ returns-3 c = next-bytes (c .before .before .before .args .self) (c .before .got
 
 pub next-spec : {M : Type 1} → statement M
 next-spec =
-    tie.close (tie.spec enum-told enum-told-2 enum-known-got add-t6 returns returns-2 returns-3)
+    tie.close (tie.spec (λ c. search needs) (λ c. search needs) (λ c. search needs) add-t6 returns returns-2 returns-3)

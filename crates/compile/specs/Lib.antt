@@ -1,0 +1,2 @@
+-- What is asked of the compiler.
+pub mod Asks

@@ -1,2 +1,0 @@
--- The law of the program: there is room for each answer.
-pub mod Standing

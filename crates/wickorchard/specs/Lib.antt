@@ -1,2 +1,0 @@
--- What the program's own functions hand to one another.
-pub mod Handed

@@ -9,7 +9,7 @@ use refusals::{Refusal, Verdict};
 use rules::check::list_verdict;
 use trees::words::MOST_NODES;
 
-#[derive(Drop)]
+#[derive(Clone, Copy)]
 pub enum Built {
     Refused(Refusal),
     Tree { nodes: usize, pool: usize },

@@ -25,7 +25,7 @@ const MOST_IN_LEAF: usize = 8;
 const MOST_VALUES: usize = 2 * MOST_RULES;
 
 // What a node is: a leaf of the rules that meet its box; a leaf that stands already, with its entries; or a cut.
-#[derive(Drop)]
+#[derive(Clone, Copy)]
 pub enum Choice {
     Leaf,
     Stands { start: usize, count: usize },
@@ -33,7 +33,7 @@ pub enum Choice {
 }
 
 // The cut values of a field: how many there are, and the middle one.
-#[derive(Drop)]
+#[derive(Clone, Copy)]
 pub struct Values {
     pub field: usize,
     pub count: usize,

@@ -19,7 +19,7 @@ use trees::words::{LEAF_MARK, NODE_WORDS};
 
 // What growing a part answers: a refusal; or the node after it, how many entries there are then, and whether it is
 // open, its last part being not begun.
-#[derive(Drop)]
+#[derive(Clone, Copy)]
 pub enum Grown {
     Refused(Refusal),
     Part {
@@ -31,7 +31,7 @@ pub enum Grown {
 
 // What a part begins with: it is not begun; a node whose words do not fit; a leaf of so many entries; or a cut, where
 // so many boxes meet.
-#[derive(Drop)]
+#[derive(Clone, Copy)]
 pub enum Look {
     Bud,
     Refused(Refusal),
@@ -46,7 +46,7 @@ pub enum Look {
 }
 
 // Where a part begins: at which node, after how many entries; and how many more cuts are allowed there.
-#[derive(Drop)]
+#[derive(Clone, Copy)]
 pub struct Spot {
     pub node: usize,
     pub entries: usize,
@@ -54,7 +54,7 @@ pub struct Spot {
 }
 
 // How many words of nodes and of entries there is room for; and the first node that is not grown, whatever the room.
-#[derive(Drop)]
+#[derive(Clone, Copy)]
 pub struct Room {
     pub nodes: usize,
     pub pool: usize,

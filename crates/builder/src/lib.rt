@@ -9,6 +9,8 @@
 //   grow      the recursion: a node, its left part, its right part
 //   root      the tree of a list from its root, grown and then stored
 // Rests on facts, lent, refusals, fields, rules, trees, tree_check and built.
+#![tactic(auto)]
+
 pub mod boxes;
 pub mod build;
 pub mod choice;

@@ -14,7 +14,7 @@ use tree_check::part::part_check;
 use trees::words::NODE_WORDS;
 
 // What a step comes to: a refusal; the whole tree; or a part of it.
-#[derive(Drop)]
+#[derive(Clone, Copy)]
 pub enum Step {
     Refused(Refusal),
     Whole { nodes: usize, pool: usize },

@@ -2,3 +2,4 @@
 // and whether they fit. Definitions and laws, no code. The laws: these words are well spelt, the tree check accepts
 // them for the list, and refusal 4 names the first node that does not fit.
 // Rests on facts, refusals, fields, rules, trees and tree_check.
+#![tactic(auto)]

@@ -4,6 +4,8 @@
 // it goes on from the part in that file. Where that part is refused, the line of its refusal is written first, and the
 // step is one from nothing. What it asks of the system, and what it writes, is settled by the contract of `run`.
 //   steps    one step
+#![tactic(auto)]
+
 mod steps;
 
 ghost use Rattle.std.specs.Prelude.{◌≡◌, length};
@@ -28,7 +30,7 @@ use system::out::{say, say_verdict};
 use text::put::Written;
 
 // The whole tree; one step of `most` nodes from nothing; or one from the part in a file.
-#[derive(Drop)]
+#[derive(Clone, Copy)]
 pub(crate) enum Asks {
     Whole,
     First { most: usize },

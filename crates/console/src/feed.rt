@@ -19,7 +19,7 @@ use text::cursor::{Cursor, LineEnd, wrong};
 use text::put::Written;
 
 // How many bytes of a piece were taken, how many bytes their replies fill, and the line that is being gathered.
-#[derive(Drop)]
+#[derive(Clone, Copy)]
 pub struct Fed {
     pub taken: usize,
     pub filled: usize,

@@ -8,7 +8,7 @@ use crate::head::MOST_BYTES;
 use text::place::following;
 
 // The bytes held; how many, a line that is too long having one more than the most; and the whole lines before it.
-#[derive(Drop)]
+#[derive(Clone, Copy)]
 pub struct Gathering {
     pub held: [u8; MOST_BYTES],
     pub count: usize,

@@ -12,7 +12,7 @@ use text::words::{HEAD, HEAD_MARKS, MOST_FIELDS};
 pub const MOST_BYTES: usize = 64;
 
 // Whether a line asks about a header, and which; 0 for each word where it does not.
-#[derive(Drop)]
+#[derive(Clone, Copy)]
 pub struct Head {
     pub asked: bool,
     pub header: [u32; FIELDS],

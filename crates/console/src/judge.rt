@@ -7,7 +7,7 @@ use refusals::{Refusal, Verdict};
 use rules::check::list_verdict;
 
 // The tree; the list, which is good; or the refusal of the list, which answers every header.
-#[derive(Drop)]
+#[derive(Clone, Copy)]
 pub(crate) enum By {
     Tree,
     List,
@@ -15,7 +15,7 @@ pub(crate) enum By {
 }
 
 // Which rules match a header, by what answers; or why one rule misses it.
-#[derive(Drop)]
+#[derive(Clone, Copy)]
 pub(crate) enum Ask {
     Matches(By),
     Misses { rule: usize },

@@ -8,6 +8,8 @@
 //   feed::last_reply           the reply to a last part without newline: 4
 // Each takes any words and bytes. By an accepted tree the replies are those by the list, and however the input is cut
 // into pieces they are the same. Rests on facts, refusals, fields, rules, trees, tree_check, text and rule_file.
+#![tactic(auto)]
+
 pub mod feed;
 pub mod gather;
 pub mod head;

@@ -7,6 +7,8 @@
 //   rule_text::wick_rules_write, rule_text::wick_acl_write, rule_text::wick_rules_read
 //   tree_text::wick_tree_write, tree_text::wick_tree_read, tree_text::wick_part_write, tree_text::wick_part_read
 //   compiler::wick_build, compiler::wick_build_some, compiler::wick_build_on
+#![tactic(auto)]
+
 pub mod answer;
 pub mod compiler;
 pub mod line;

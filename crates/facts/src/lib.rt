@@ -1,1 +1,2 @@
 // Laws of numbers and lists that the kit's library lacks. No code, and nothing about packets.
+#![tactic(auto)]

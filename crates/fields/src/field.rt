@@ -6,7 +6,7 @@ use crate::port::{LARGEST_PORT, ports_end, ports_match};
 use crate::prefix::{prefix_agrees, prefix_good, prefix_last, prefix_meets};
 use crate::range::{range_good, range_holds, ranges_meet};
 
-#[derive(Drop)]
+#[derive(Clone, Copy)]
 pub enum Field {
     Prefix { address: u32, len: u32 },
     Range { low: u32, high: u32, largest: u32 },

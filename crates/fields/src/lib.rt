@@ -15,6 +15,8 @@
 //   bounds::left_part          what a cut leaves its left child
 //   bounds::right_part         what a cut leaves its right child
 // Each takes any words. Rests on facts and refusals.
+#![tactic(auto)]
+
 pub mod bounds;
 pub mod field;
 pub mod header;

@@ -6,13 +6,13 @@ ghost use Rattle.ledger.specs.Ledger.{enter, opened, read, closed, standard_inpu
 use crate::entry::one_more;
 
 // What a file is read by: the system's number for it.
-#[derive(Drop)]
+#[derive(Clone, Copy)]
 pub struct Descriptor {
     pub number: i32,
 }
 
 // What one read gave. A read that fails is never taken for the end.
-#[derive(Drop)]
+#[derive(Clone, Copy)]
 pub enum Got {
     Failed,
     Ended,

@@ -11,6 +11,8 @@
 //   arguments::argument_count    how many arguments there are
 //   arguments::argument     one of them
 // Each takes any words and bytes. Rests on facts.
+#![tactic(auto)]
+
 pub mod arguments;
 mod entry;
 pub mod input;

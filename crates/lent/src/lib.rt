@@ -3,6 +3,8 @@
 //   store_all    puts words from a place on, as far as there is room
 //   wide         a word as a place or a count
 // Each takes any words and any place. Rests on facts.
+#![tactic(auto)]
+
 ghost use Rattle.std.specs.Prelude.{◌-◌, min, ◌≡◌, set};
 ghost use Rattle.std.proofs.lemmas.List.Edits.{sets};
 

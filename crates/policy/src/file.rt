@@ -5,7 +5,7 @@ ghost use Rattle.std.specs.Prelude.{min, ◌≡◌};
 pub const MOST_FILE: usize = 65536;
 
 // It was not read to its end, or is too long; or it has `count` bytes, which stand in front of a buffer.
-#[derive(Drop)]
+#[derive(Clone, Copy)]
 pub enum File {
     NotRead,
     Bytes { count: usize },

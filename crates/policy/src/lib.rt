@@ -13,6 +13,8 @@
 //   step::on_text             the text of a part and some nodes more: 1, 2, 11, 5, 6, 7, 8, 4
 //   file::File                what a file gave
 // Each takes any words and bytes. Rests on all libraries but exports.
+#![tactic(auto)]
+
 pub mod compiled;
 pub mod file;
 pub mod line;

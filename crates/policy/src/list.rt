@@ -8,7 +8,7 @@ use refusals::Refusal;
 use rule_file::read::{Read, rules_read};
 use rules::words::RULE_WORDS;
 
-#[derive(Drop)]
+#[derive(Clone, Copy)]
 pub enum Listed {
     Refused(Refusal),
     Words { words: usize },

@@ -12,7 +12,7 @@ use tree_file::read::{Read, part_read};
 use trees::words::NODE_WORDS;
 
 // A part's refusal; or the number of rules that it was made for, and how many words its nodes and its pool have.
-#[derive(Drop)]
+#[derive(Clone, Copy)]
 pub enum Begun {
     Refused(Refusal),
     Words {

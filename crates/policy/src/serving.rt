@@ -11,7 +11,7 @@ use tree_check::check::{TreeAnswer, tree_check};
 
 // Why the tree was refused, or that it was not; whether the tree was accepted; and how many words its nodes and its
 // pool have, none where the list serves.
-#[derive(Drop)]
+#[derive(Clone, Copy)]
 pub struct Serving {
     pub refused: Verdict,
     pub accepted: bool,

@@ -8,7 +8,7 @@ use refusals::Refusal;
 use tree_file::read::{Read, tree_read};
 use trees::words::NODE_WORDS;
 
-#[derive(Drop)]
+#[derive(Clone, Copy)]
 pub enum Taken {
     Refused(Refusal),
     Words { nodes: usize, pool: usize },

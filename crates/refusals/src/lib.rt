@@ -1,10 +1,12 @@
 // Why a call was refused. `Refusal` has a variant for each refusal number of the scope, named after what is wrong, and
 // `Verdict` is what one check says. `number_of`, `place_of` and `extra_of` give the scope's numbers; they are the only
 // code that has them. Rests on facts.
+#![tactic(auto)]
+
 ghost use Rattle.std.specs.Prelude.{◌≡◌};
 ghost use Rattle.refusals.specs.Table.{number_of, place_of, extra_of};
 
-#[derive(Drop)]
+#[derive(Clone, Copy)]
 pub enum Refusal {
     RuleWordsWrong,
     RuleNotGood { rule: usize },
@@ -20,7 +22,7 @@ pub enum Refusal {
     FileNotRead,
 }
 
-#[derive(Drop)]
+#[derive(Clone, Copy)]
 pub enum Verdict {
     Fine,
     Refused(Refusal),

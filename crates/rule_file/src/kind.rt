@@ -5,7 +5,7 @@ ghost use Rattle.rule_file.specs.Kinds.{most_action, kind_of};
 use rules::words::LARGEST_ACTION;
 use text::words::ACL;
 
-#[derive(Drop)]
+#[derive(Clone, Copy)]
 pub enum Kind {
     Rules,
     Acl,

@@ -9,6 +9,8 @@
 // Each takes any words and any bytes, and a refusal writes nothing. What is written reads back as the same words and
 // kind, and a text that reads well is the one that its kind's writer writes of its words. Rests on facts, lent,
 // refusals, fields, rules and text.
+#![tactic(auto)]
+
 pub mod kind;
 pub mod piece;
 pub mod read;

@@ -20,14 +20,14 @@ use text::cursor::{Cursor, Fields, Step, wrong};
 use text::end::{Ending, end_line};
 use text::words::{ACL, ACL_MARKS, ONE_TAB, RULE, RULE_MARKS, RULES};
 
-#[derive(Drop)]
+#[derive(Clone, Copy)]
 pub enum Read {
     Refused(Refusal),
     Rules { rules: usize, kind: Kind },
 }
 
 // What the first line says: how many rules follow, and where they begin.
-#[derive(Drop)]
+#[derive(Clone, Copy)]
 pub enum First {
     Refused(Refusal),
     Announces(usize, Cursor),

@@ -10,7 +10,7 @@ use fields::field::field_good;
 use fields::header::FIELDS;
 use refusals::{Refusal, Verdict};
 
-#[derive(Drop)]
+#[derive(Clone, Copy)]
 pub enum Checked {
     Refused(Refusal),
     Good { rules: usize },

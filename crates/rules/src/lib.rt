@@ -16,6 +16,8 @@
 //   bounds::ends_of       the two ends of a field of a rule
 //   lacking::lowest_lacking   the lowest rule whose box meets a box and that a list of entries lacks
 // Each takes any words. Rests on facts, lent, refusals and fields.
+#![tactic(auto)]
+
 pub mod bounds;
 pub mod check;
 pub mod lacking;

@@ -18,13 +18,13 @@ use refusals::{Refusal, Verdict};
 // The most rules that a scan looks at: those whose numbers are words of 32 bits.
 const MOST_SCANNED: usize = 4_294_967_296;
 
-#[derive(Drop)]
+#[derive(Clone, Copy)]
 pub enum Listed {
     Refused(Refusal),
     Found { count: usize },
 }
 
-#[derive(Drop)]
+#[derive(Clone, Copy)]
 pub enum First {
     Refused(Refusal),
     Rule { number: usize, action: u32 },

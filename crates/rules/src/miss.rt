@@ -10,7 +10,7 @@ use fields::header::header_verdict;
 use refusals::{Refusal, Verdict};
 
 // A field, or the number of fields where the rule matches.
-#[derive(Drop)]
+#[derive(Clone, Copy)]
 pub enum Missed {
     Refused(Refusal),
     At { field: usize },

@@ -23,7 +23,7 @@ pub const LARGEST_ACTION: u32 = 255;
 
 // How a rule gives a field: by a prefix, the words of its address and of its length; by a range, the words of its two
 // ends, and the largest end that it may have; or by a range of ports, the words of its two ends.
-#[derive(Drop)]
+#[derive(Clone, Copy)]
 enum Form {
     Prefix {
         address: usize,

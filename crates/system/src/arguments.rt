@@ -11,7 +11,7 @@ use text::words::{ONE_TAB, TAB};
 const MOST_LINE: usize = 11;
 
 // A number that was told.
-#[derive(Drop)]
+#[derive(Clone, Copy)]
 pub enum Told {
     Wrong,
     Number(u32),

@@ -7,6 +7,8 @@
 //   serve::serve              the lines of standard input, answered: which rules match their headers
 //   serve::serve_why          the same: why one rule misses their headers
 // Each takes any words and bytes. Rests on facts, refusals, text, console, policy and ledger.
+#![tactic(auto)]
+
 pub mod arguments;
 pub mod load;
 pub mod out;

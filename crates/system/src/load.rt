@@ -12,7 +12,7 @@ use policy::file::File;
 pub const RULES_FILE: [u8; 9] = *b"rules.txt";
 
 // The reads of a file so far: how many bytes stand in front of the buffer, and what the last read gave.
-#[derive(Drop)]
+#[derive(Clone, Copy)]
 pub struct Reads {
     pub done: usize,
     pub last: Got,

@@ -18,14 +18,14 @@ use ledger::input::{Got, read_some, standard_input};
 const PIECE: usize = 65536;
 
 // What the lines ask of their headers: which rules match, by the tree if it was accepted; or why one rule misses.
-#[derive(Drop)]
+#[derive(Clone, Copy)]
 pub(crate) enum Asked {
     Matches { accepted: bool },
     Misses { rule: usize },
 }
 
 // After some input: whether more is to be read, whether all replies were written, and the line that is being gathered.
-#[derive(Drop)]
+#[derive(Clone, Copy)]
 pub(crate) struct Turn {
     pub more: bool,
     pub written: bool,

@@ -11,33 +11,33 @@ use lent::store;
 use refusals::Refusal;
 
 // A place in the text, and the whole lines before it.
-#[derive(Drop)]
+#[derive(Clone, Copy)]
 pub struct Cursor {
     pub at: usize,
     pub lines: usize,
 }
 
-#[derive(Drop)]
+#[derive(Clone, Copy)]
 pub enum Number {
     Value(u32, Cursor),
     Refused(Refusal),
 }
 
-#[derive(Drop)]
+#[derive(Clone, Copy)]
 pub enum Step {
     Next(Cursor),
     Refused(Refusal),
 }
 
 // Where a line ends: the place of its newline.
-#[derive(Drop)]
+#[derive(Clone, Copy)]
 pub enum LineEnd {
     At(usize),
     Refused(Refusal),
 }
 
 // The numbers of a line, 0 for those that it does not have, and the cursor behind them; all 0 on a refusal.
-#[derive(Drop)]
+#[derive(Clone, Copy)]
 pub struct Fields {
     pub said: Step,
     pub values: [u32; MOST_FIELDS],

@@ -10,7 +10,7 @@ use crate::words::{END, ONE_TAB};
 use refusals::Refusal;
 
 // Whether a text ends as it should.
-#[derive(Drop)]
+#[derive(Clone, Copy)]
 pub enum Ending {
     Refused(Refusal),
     Over,

@@ -11,6 +11,8 @@
 //   address::octets_fit, address_of                the address of four octets
 //   words                                          the fixed words and separators
 // Each takes any bytes and any places. Rests on facts, lent and refusals.
+#![tactic(auto)]
+
 pub mod address;
 pub mod cursor;
 pub mod end;

@@ -11,7 +11,7 @@ use crate::words::{NEWLINE, TAB};
 use refusals::Refusal;
 
 // The answer of a call that writes some bytes from the front of a lent output on: how many, or why it wrote none.
-#[derive(Drop)]
+#[derive(Clone, Copy)]
 pub enum Written {
     Refused(Refusal),
     Bytes { bytes: usize },

@@ -14,7 +14,7 @@ use trees::words::NODE_WORDS;
 // The most cuts above a leaf.
 pub const MOST_CUTS: usize = 63;
 
-#[derive(Drop)]
+#[derive(Clone, Copy)]
 pub enum TreeAnswer {
     Refused(Refusal),
     Accepted { cuts: usize, longest: usize },

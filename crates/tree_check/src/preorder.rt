@@ -18,7 +18,7 @@ use rules::words::RULE_WORDS;
 use trees::words::{NODE_WORDS, Node, node_at};
 
 // The lowest rule that a leaf lacks; or it lacks none.
-#[derive(Drop)]
+#[derive(Clone, Copy)]
 pub enum Lack {
     Complete,
     Lacks { node: usize, rule: usize },
@@ -26,7 +26,7 @@ pub enum Lack {
 
 // What the check of a part says: a refusal; or the node after it, the most cuts above a leaf, the longest leaf, and the
 // first leaf that lacks a rule.
-#[derive(Drop)]
+#[derive(Clone, Copy)]
 pub enum Part {
     Refused(Refusal),
     Good {
@@ -38,7 +38,7 @@ pub enum Part {
 }
 
 // What stands at a node of a part: none is there; it is wrong; a leaf; or a cut that divides the box.
-#[derive(Drop)]
+#[derive(Clone, Copy)]
 pub enum Look {
     Missing,
     Wrong,

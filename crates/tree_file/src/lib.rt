@@ -6,6 +6,8 @@
 // A file that reads well is the one that is written of what it says, and what is written reads back. No text reads well
 // as both: it is refused with 9 at line 1 by the other reader. Rests on facts, lent, refusals, fields, rules, trees and
 // text.
+#![tactic(auto)]
+
 pub mod node;
 pub mod read;
 pub mod words;

@@ -17,7 +17,7 @@ use text::words::{CUT, FOUR_TABS, LEAF, TAB, TWO_TABS};
 use trees::words::LEAF_MARK;
 
 // What a node's line comes to: a refusal; or the entries up to here, and the cursor behind the line.
-#[derive(Drop)]
+#[derive(Clone, Copy)]
 pub enum Node {
     Refused(Refusal),
     Next(usize, Cursor),

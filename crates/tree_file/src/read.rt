@@ -14,7 +14,7 @@ use text::end::{Ending, end_line};
 use text::words::{PART, THREE_TABS, TREE};
 use trees::words::{MOST_NODES, MOST_POOL, NODE_WORDS};
 
-#[derive(Drop)]
+#[derive(Clone, Copy)]
 pub enum Read {
     Refused(Refusal),
     Tree {
@@ -25,7 +25,7 @@ pub enum Read {
 }
 
 // The numbers of rules, nodes and pool words that the first line announces.
-#[derive(Drop)]
+#[derive(Clone, Copy)]
 pub struct Counts {
     pub rules: usize,
     pub nodes: usize,
@@ -33,7 +33,7 @@ pub struct Counts {
 }
 
 // What the first line says: the counts that it announces, and where the nodes begin.
-#[derive(Drop)]
+#[derive(Clone, Copy)]
 pub enum First {
     Refused(Refusal),
     Announces(Counts, Cursor),

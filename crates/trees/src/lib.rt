@@ -6,6 +6,8 @@
 //   words::node_at           a node by its words
 // Each takes any words: the tree search does not repeat the tree check. Rests on facts, lent, refusals, fields and
 // rules.
+#![tactic(auto)]
+
 pub mod search;
 pub mod spelt;
 pub mod walk;

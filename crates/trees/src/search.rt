@@ -16,7 +16,7 @@ use refusals::{Refusal, Verdict};
 use rules::matching::rule_matches;
 use rules::words::{RULE_WORDS, action_of};
 
-#[derive(Drop)]
+#[derive(Clone, Copy)]
 pub enum TreeListed {
     Refused(Refusal),
     Found {
@@ -26,7 +26,7 @@ pub enum TreeListed {
     },
 }
 
-#[derive(Drop)]
+#[derive(Clone, Copy)]
 pub enum TreeFirst {
     Refused(Refusal),
     Rule {
@@ -42,7 +42,7 @@ pub enum TreeFirst {
 }
 
 // What both searches come to: a refusal; or a leaf, where its entries start, how many there are, and the nodes visited.
-#[derive(Drop)]
+#[derive(Clone, Copy)]
 pub enum Reached {
     Refused(Refusal),
     Leaf {

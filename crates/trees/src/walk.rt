@@ -9,7 +9,7 @@ use crate::words::{CHILD, FIRST, LEAF_MARK, NODE_WORDS, VALUE, node_word};
 use lent::wide;
 
 // What stands at a node, for a header: it is wrong, it is a leaf, or the walk goes on to another node.
-#[derive(Drop)]
+#[derive(Clone, Copy)]
 pub enum Step {
     Wrong,
     Leaf,
@@ -17,7 +17,7 @@ pub enum Step {
 }
 
 // Where a walk ends: at a node that is wrong; or at a leaf, with the number of nodes visited, root and leaf included.
-#[derive(Drop)]
+#[derive(Clone, Copy)]
 pub enum Walked {
     Lost { node: usize },
     Came { leaf: usize, visited: usize },

@@ -30,7 +30,7 @@ pub const START: usize = 1;
 pub const COUNT: usize = 2;
 
 // What stands at a node: none is there; a leaf; or a cut.
-#[derive(Drop)]
+#[derive(Clone, Copy)]
 pub enum Node {
     Missing,
     Leaf {

@@ -11,6 +11,8 @@
 //   calls     the searches and the checks, and the line that says the answer
 //   files     the readers and the writers, likewise
 //   say       the parts of a line
+#![tactic(auto)]
+
 mod actions;
 mod calls;
 mod files;

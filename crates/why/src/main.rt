@@ -2,6 +2,8 @@
 // answers the lines of standard input on standard output: whether the rule whose number is its argument matches their
 // headers, or which field is the first to disagree, and what the rule says of it. What it asks of the system, and what
 // it writes, is settled by the contract of `run`.
+#![tactic(auto)]
+
 ghost use Rattle.console.specs.MissLines.{miss_answer};
 ghost use Rattle.ledger.specs.Ledger.{Enters};
 ghost use Rattle.system.specs.Turns.{InputAnswered};

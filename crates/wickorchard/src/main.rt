@@ -1,6 +1,8 @@
 // The program. It reads the policy in the folder where it is started, `rules.txt` and `tree.txt`, and answers the lines
 // of standard input on standard output. What it asks of the system, and what it writes, is settled by the contract of
 // `run`.
+#![tactic(auto)]
+
 ghost use Rattle.std.specs.Prelude.{◌≡◌, length};
 ghost use Rattle.ledger.specs.Ledger.{Enters};
 ghost use Rattle.policy.specs.Files.{most_file};

@@ -102,7 +102,7 @@ module _ (n : ℕ) (boxes : List (List (List ℕ))) (nodes pool : List ℕ) (b :
           on_missing n boxes nodes pool b i k (missing_means nodes i q) ∙ fresh_leaf n boxes b k t
       go k (node.Leaf s c) q t = let z : ◌≡◌ {A = ℕ} 0 1 = cc in absurd (omega arith)
       go zero (node.Cut f v w) q t =
-          let c = cut_is nodes i q in on_deep n boxes nodes pool b i c.there c.below-mark
+          let c = cut_is nodes i q in on_deep n boxes nodes pool b i c.there c.below_mark
       go (suc k) (node.Cut f v w) q t =
           let c = sym t ∙ cut_stays k f v in let z : ◌≡◌ {A = ℕ} 0 1 = cc in absurd (omega arith)
 
@@ -152,6 +152,6 @@ module _ (n : ℕ) (boxes : List (List (List ℕ))) (nodes pool : List ℕ) (b :
           let less : suc k - 1 ≡ k = omega arith in (
             omega arith,
             rw less
-                (on_cut n boxes nodes pool b i c.there c.below-mark k (sym c.field ∙ field)
+                (on_cut n boxes nodes pool b i c.there c.below_mark k (sym c.field ∙ field)
                 (sym c.value ∙ value)),
           )

@@ -128,4 +128,4 @@ module _ (k n : ℕ) (boxes : List (List (List ℕ))) (standing : List ℕ) (b :
       go node.Missing q t = fresh_cut (omega (arith, all)) (eqb k 0) (stops n boxes b) t
       go (node.Leaf s c) q t = let z : ◌≡◌ {A = ℕ} 0 1 = cc in absurd (omega arith)
       go (node.Cut g w child) q t =
-          let c = cut_is standing i q in omega (arith, kept_cut (eqb k 0) g w t, c.field, c.below-mark, all)
+          let c = cut_is standing i q in omega (arith, kept_cut (eqb k 0) g w t, c.field, c.below_mark, all)

@@ -1,8 +1,7 @@
 -- Two tests joined, and a test taken by its two cases.
-use mathlib.Core.Bool.{Bool, true, false, not, ◌&&◌, ◌||◌, true≢false, false≢true}
+use mathlib.Core.Bool.{Bool, true, false, ◌&&◌, ◌||◌, true≢false, false≢true}
 use mathlib.Core.Path.{◌≡◌, refl, sym, ap, ◌∙◌}
 use mathlib.Core.Logic.{◌⊎◌, inl, inr}
-use borrow.Author.Tests.{not-true, not-false}
 
 -- where both of two tests hold, each does
 pub both : (a b : Bool) → (a && b) ≡ true → (a ≡ true) × (b ≡ true)
@@ -40,9 +39,9 @@ same_test false true f g = absurd (false≢true (g refl))
 same_test false false f g = refl
 
 -- a test whose outcome t was not refused holds
-pub held : {t b : Bool} → t ≡ b → not t ≡ false → b ≡ true
-held {t} e n = sym e ∙ not-false t n
+pub held : {t b : Bool} → t ≡ b → t ≡ true → b ≡ true
+held {t} e h = sym e ∙ h
 
 -- a test whose outcome t was refused fails
-pub failed : {t b : Bool} → t ≡ b → not t ≡ true → b ≡ false
-failed {t} e n = sym e ∙ not-true t n
+pub failed : {t b : Bool} → t ≡ b → t ≡ false → b ≡ false
+failed {t} e h = sym e ∙ h

@@ -64,5 +64,5 @@ meets_iff_common_point n a b full_a full_b = (
         in_first = corner_in_a n a b full_a full_b o;
         in_second = corner_in_b n a b full_a full_b o;
       },
-  λ c. (overlap_iff n a b).1 (λ f l. let p = c.in-first f l in let q = c.in-second f l in (omega arith, omega arith)),
+  λ c. (overlap_iff n a b).1 (λ f l. let p = c.in_first f l in let q = c.in_second f l in (omega arith, omega arith)),
 )

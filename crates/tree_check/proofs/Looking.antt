@@ -79,7 +79,7 @@ module _ (far : Bool) (rs nodes pool : List ℕ) (k : ℕ) (b : List (List ℕ))
 
   module _ {f v w : ℕ} (c : IsCut nodes i f v w) where
     deep : k ≡ 0 → preorder_of far k rs nodes pool b i ≡ Refused (NodeWrong i)
-    deep e = rw e (preorder_deep far rs nodes pool b i c.there c.below-mark)
+    deep e = rw e (preorder_deep far rs nodes pool b i c.there c.below_mark)
 
     words : (t : Bool) → divides b f v ≡ t → divides b (field_of nodes i) (value_of nodes i) ≡ t
     words t e = rw (c.field, c.value) at e
@@ -87,7 +87,7 @@ module _ (far : Bool) (rs nodes pool : List ℕ) (k : ℕ) (b : List (List ℕ))
     undivided : (k ≡ 0 → ⊥) → divides b f v ≡ false → preorder_of far k rs nodes pool b i ≡ Refused (NodeWrong i)
     undivided n e =
         let q : k ≡ suc (k - 1) = omega arith in
-        rw q (preorder_undivided far rs nodes pool b i c.there c.below-mark (k - 1) (words false e))
+        rw q (preorder_undivided far rs nodes pool b i c.there c.below_mark (k - 1) (words false e))
 
     divided_so : (k ≡ 0 → ⊥) → divides b f v ≡ true → SeesCut f v w
     divided_so n e =
@@ -101,7 +101,7 @@ module _ (far : Bool) (rs nodes pool : List ℕ) (k : ℕ) (b : List (List ℕ))
         whole =
             let q : k ≡ suc (k - 1) = omega arith in
             ap (λ (m : ℕ). preorder_of far m rs nodes pool b i) q ∙
-            preorder_divided far rs nodes pool b i c.there c.below-mark (k - 1) (words true e)
+            preorder_divided far rs nodes pool b i c.there c.below_mark (k - 1) (words true e)
 
   sees_node : (y : Node) → node_at nodes i ≡ y → Sees (look_in k b y)
   unfolding Sees look_in

@@ -12,7 +12,7 @@ use Rattle.fields.proofs.bounds.left_part.Goals as goal
 -- the field that is divided is one of the box's
 there : (c : goal.Else-not-divides) → c.args.field < field_count
 there c =
-    divided_there _ _ _ c.type_inv.bounds (held c.divides.ensures c.if-not-divides.false)
+    divided_there _ _ _ c.well_formed.0.1.0.1 (held c.divides.ensures c.if-not-divides.false)
 
 pub returns-then-not-divides : goal.returns-then-not-divides
 returns-then-not-divides c = sym (left_whole _ _ _ (failed c.divides.ensures c.if-not-divides.true))

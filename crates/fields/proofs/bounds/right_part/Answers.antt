@@ -8,11 +8,12 @@ use Rattle.fields.specs.Cuts.{right_of}
 use Rattle.fields.specs.Words.{field_count}
 use Rattle.fields.proofs.Cuts.{divides_iff, divided_there, right_divided, right_whole}
 use Rattle.fields.proofs.bounds.right_part.Goals as goal
+use Rattle.fields.proofs.bounds.right_part.Goals.{Else-not-divides}
 
 -- the field that is divided is one of the box's
 there : (c : goal.Else-not-divides) → c.args.field < field_count
 there c =
-    divided_there _ _ _ c.type_inv.bounds (held c.divides.ensures c.if-not-divides.false)
+    divided_there _ _ _ c.well_formed.0.1.0.1 (held c.divides.ensures c.if-not-divides.false)
 
 pub returns-then-not-divides : goal.returns-then-not-divides
 returns-then-not-divides c = sym (right_whole _ _ _ (failed c.divides.ensures c.if-not-divides.true))

@@ -1,5 +1,7 @@
 -- `fields::prefix::prefix_last` meets its contract: the last word of the range is counted in 64 bits, and the last word
 -- of all takes its place where it is over that. Assumes nothing.
+use borrow.Author.Rules.{rules}
+use Rattle.fields.specs.Prefixes.{prefix_last}
 use native.Mathlib.Omega.{arith}
 use Rattle.fields.specs.Words.{address_bits}
 use Rattle.fields.proofs.Prefixes.{span_pos, span_at_most}
@@ -11,3 +13,11 @@ overflow_add-last c = let most = span_at_most address_bits c.args.len in
 
 pub overflow_sub-last : goal.overflow_sub-last
 overflow_sub-last c = omega (arith, c.span_of.ensures, span_pos address_bits c.args.len)
+
+pub returns-then-last-ge-ALL_WORDS : goal.returns-then-last-ge-ALL_WORDS
+unfolding prefix_last
+returns-then-last-ge-ALL_WORDS c = search rules
+
+pub returns : goal.returns
+unfolding prefix_last
+returns c = search rules

@@ -55,11 +55,11 @@ module _ (rs nodes pool : List ℕ) (leaf seen : ℕ) where
           (holds_fine _ (le-leb (start_of nodes leaf + count_of nodes leaf) (length pool) (rw (es, ek) at l)))
 
       -- an entry that names no rule is wrong
-      pub leaf_unknown : not t ≡ true → LeafJudged rs nodes pool leaf seen (reached.Refused (LeafWrong leaf))
+      pub leaf_unknown : t ≡ false → LeafJudged rs nodes pool leaf seen (reached.Refused (LeafWrong leaf))
       leaf_unknown n = LeafJudged.refuses (decides ∙ fails_refused _ (failed same n))
 
       -- where each entry names a rule these are the leaf's words
-      pub leaf_known : not t ≡ false → LeafJudged rs nodes pool leaf seen (reached.Leaf s k seen)
+      pub leaf_known : t ≡ true → LeafJudged rs nodes pool leaf seen (reached.Leaf s k seen)
       leaf_known n =
           LeafJudged.holds (decides ∙ holds_fine _ (held same n)) (record { start_is = es; count_is = ek }) refl
 

@@ -5,7 +5,7 @@ use native.Mathlib.Omega.{arith}
 use mathlib.Core.Bool.{Bool, true, false, not}
 use mathlib.Core.Path.{◌≡◌, refl, sym, subst, ◌∙◌}
 use mathlib.Core.List.{List, ◌∷◌}
-use borrow.Author.Tests.{lt-ltb, le-ltb, not-true}
+use borrow.Author.Tests.{lt-ltb, le-ltb}
 use Rattle.facts.proofs.Cases.{WithinOrOver, at_most, over, within_or_over}
 use Rattle.refusals.specs.declared.Refusal.TheVariants.{NodeWrong}
 use Rattle.trees.specs.Words.{node_count, child_of}
@@ -23,8 +23,8 @@ pub none_refused : {far : Bool} (i : ℕ) → far ≡ false → Refused (NodeWro
 none_refused i e = rw e
 
 -- in a whole tree the right child is the first number after the left part
-pub child_whole : (far : Bool) (m next : ℕ) → not far ≡ true → next ≡ child_at far m next
-child_whole far m next e = let z = not-true far e in rw z
+pub child_whole : (far : Bool) (m next : ℕ) → far ≡ false → next ≡ child_at far m next
+child_whole far m next e = rw e
 
 -- where a node follows the left part, it is the right child
 pub child_there : (far : Bool) {m next : ℕ} → next < m → child_at far m next ≡ next

@@ -39,13 +39,13 @@ module _
 
 module _ (rs l : List ℕ) (b : List (List ℕ)) (i : ℕ) {t : Bool} (et : t ≡ rises 0 l) where
   -- entries that do not rise are refused
-  pub entries_fall : not t ≡ true → Refused (LeafWrong i) ≡ leaf_part rs l b i
+  pub entries_fall : t ≡ false → Refused (LeafWrong i) ≡ leaf_part rs l b i
   unfolding leaf_part
   entries_fall n = let z = failed et n in rw z
 
   -- entries that rise are a part of one node
   pub entries_rise :
-      {y : Lack} → not t ≡ false → y ≡ lack_of rs l b i → Good (i + 1) 0 (length l) y ≡ leaf_part rs l b i
+      {y : Lack} → t ≡ true → y ≡ lack_of rs l b i → Good (i + 1) 0 (length l) y ≡ leaf_part rs l b i
   unfolding leaf_part
   entries_rise n q = let z = held et n in rw (z, q)
 

@@ -43,12 +43,12 @@ module _ (nodes : List ℕ) (k : ℕ) (b : List (List ℕ)) (i : ℕ) where
 
     module _ (some : k ≡ 0 → ⊥) {t : Bool} (d : t ≡ divides b f v) where
       -- one whose value does not divide the box is wrong
-      pub look_out : not t ≡ true → Wrong ≡ look_at nodes k b i
+      pub look_out : t ≡ false → Wrong ≡ look_at nodes k b i
       unfolding look_at look_in
       look_out n = let z = failed d n in rw (e, ne_eqb k 0 some, z)
 
       -- else it is a cut
-      pub look_cut : not t ≡ false → Cut f v w ≡ look_at nodes k b i
+      pub look_cut : t ≡ true → Cut f v w ≡ look_at nodes k b i
       unfolding look_at look_in
       look_cut n = let z = held d n in rw (e, ne_eqb k 0 some, z)
 

@@ -42,11 +42,11 @@ leads_walk {nodes = nodes} first (of_leaf {i = i} a f r) (here u g) p h q (suc n
 leads_walk first (of_leaf a f r) (to_left d w) p h q (suc n) l = absurd (omega (arith, d.field))
 leads_walk first (of_leaf a f r) (to_right d o w) p h q (suc n) l = absurd (omega (arith, d.field))
 leads_walk first (of_cut d s t r) (here u g) p h q (suc n) l = absurd (omega (arith, d.field))
-leads_walk {nodes = nodes} first (of_cut {i = i} d s t r) (to_left d' w) p h q (suc n) l =
+leads_walk {nodes = nodes} first (of_cut {k = k} {i = i} d s t r) (to_left d' w) p h q (suc n) l =
     walk_on nodes h n i d.there d.field (omega (arith, built_forward s))
     (goes_left nodes h i refl refl (from_left d p h (leads_inside w (left_pairs d p) h q)).1)
-    (leads_walk first s w (left_pairs d p) h q n (omega arith))
-leads_walk {nodes = nodes} first (of_cut {i = i} d s t r) (to_right d' o w) p h q (suc n) l =
+    (leads_walk {k = k} first s w (left_pairs d p) h q n (omega arith))
+leads_walk {nodes = nodes} first (of_cut {k = k} {i = i} d s t r) (to_right d' o w) p h q (suc n) l =
     walk_on nodes h n i d.there d.field (omega (arith, built_forward s))
     (goes_right nodes h i refl refl (from_right d p h (leads_inside w (right_pairs d p) h q)).1 (sym t))
-    (leads_walk first r (from_child false _ t o w) (right_pairs d p) h q n (omega arith))
+    (leads_walk {k = k} first r (from_child false _ t o w) (right_pairs d p) h q n (omega arith))

@@ -94,8 +94,8 @@ module _ (k : ℕ) {xs ps nodes pool : List ℕ} where
       right : child_of nodes i ≡ i + 1 + size x
       right = c' ∙ right_child_lem y (i + 1 + size x) some
 
-      is_cut : is_cut nodes i ≡ true
-      is_cut = lt-ltb (field_of nodes i) leaf_mark (omega arith)
+      cut_here : is_cut nodes i ≡ true
+      cut_here = lt-ltb (field_of nodes i) leaf_mark (omega arith)
 
       go :
           WithinOrOver k (i + 1 + size x) →
@@ -103,10 +103,10 @@ module _ (k : ℕ) {xs ps nodes pool : List ℕ} where
           cond (is_cut nodes i && leb k (child_of nodes i)) 0 (child_of nodes i)
       go (at_most m) =
           let at = up_to_size k x (i + 1) (omega arith) m in
-          rw (is_cut, right, at, le-leb k (i + 1 + size x) m, le-ltb k k (omega arith))
+          rw (cut_here, right, at, le-leb k (i + 1 + size x) m, le-ltb k k (omega arith))
       go (over m) =
           rw (
-            is_cut,
+            cut_here,
             right,
             up_to_whole k x (i + 1) (omega arith),
             lt-leb k (i + 1 + size x) m,

@@ -110,7 +110,7 @@ pub(crate) fn grow(
                 entries,
                 open: _,
             } => {
-                store_cut(nodes, spot, field, value, right_child_lem(next, room.end));
+                store_cut(nodes, spot, field, value, right_child(next, room.end));
                 grow(
                     boxes,
                     &met[..count],
@@ -204,7 +204,7 @@ fn right_spot(spot: Spot, next: usize, entries: usize) -> Spot
 }
 
 // The right child of a cut whose right part is to begin at node `next`: 0 where that is not before the end.
-fn right_child_lem(next: usize, end: usize) -> usize
+fn right_child(next: usize, end: usize) -> usize
     ensures { result ≡ child_before end next }
 {
     if next < end {

@@ -1,12 +1,11 @@
 -- `text::put::put_bytes` meets its contract: at each turn the bytes before it are put. Assumes nothing.
-use Prim.Native.Nat.{◌-◌}
 use native.Mathlib.Omega.{arith}
 use lib.Seq.{take_all}
 use Rattle.text.proofs.Puts.{put_none, put_then, put_same, put_length, bytes_more}
 use Rattle.text.proofs.put.put_bytes.Goals as goal
 
 pub loop-i-init : goal.loop-i-init
-loop-i-init c = (put_none _ _ (omega (arith, c.well_formed.)), omega arith)
+loop-i-init c = (put_none _ _ (omega arith), omega arith)
 
 pub loop-i-preserved : goal.loop-i-preserved
 loop-i-preserved c = (

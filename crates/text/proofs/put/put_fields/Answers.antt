@@ -1,5 +1,4 @@
 -- `text::put::put_fields` meets its contract: at each turn the fields before it are put. Assumes nothing.
-use Prim.Native.Nat.{◌-◌}
 use native.Mathlib.Omega.{arith}
 use Rattle.text.specs.Line.{print_fields}
 use Rattle.text.proofs.Puts.{put_none, put_then, put_same, put_length, fields_more, marks_spent, values_spent}
@@ -7,7 +6,7 @@ use Rattle.text.proofs.put.put_fields.Goals as goal
 
 pub loop-i-init : goal.loop-i-init
 unfolding print_fields
-loop-i-init c = (put_none _ _ (omega (arith, c.well_formed.)), omega arith, omega arith)
+loop-i-init c = (put_none _ _ (omega arith), omega arith, omega arith)
 
 pub shape_of-out-then-values-i : goal.shape_of-out-then-values-i
 shape_of-out-then-values-i c = put_length c.loop-i.invariant.0
@@ -16,9 +15,12 @@ pub returns-then-values-i : goal.returns-then-values-i
 returns-then-values-i c = put_same (values_spent _ _ _ c.if-values-i.true) c.loop-i.invariant.0
 
 pub loop-i-preserved : goal.loop-i-preserved
-loop-i-preserved c = let more = fields_more _ _ _ c.loop-i-test.true c.if-values-i.false in
-    let put = put_then (omega arith) c.loop-i.invariant.0 c.put_behind-p.ensures in
-    (put_same more put, omega arith, omega arith)
+loop-i-preserved c = (
+  put_same (fields_more _ _ _ c.loop-i-test.true c.if-values-i.false)
+      (put_then (omega arith) c.loop-i.invariant.0 c.put_behind-p.ensures),
+  omega arith,
+  omega arith,
+)
 
 pub shape_of-out : goal.shape_of-out
 shape_of-out c = put_length c.loop-i.invariant.0

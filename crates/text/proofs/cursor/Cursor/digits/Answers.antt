@@ -1,5 +1,4 @@
 -- `text::cursor::Cursor::digits` meets its contract: at each turn the digits before it make the value. Assumes nothing.
-use Prim.Native.Nat.{◌-◌}
 use native.Mathlib.Omega.{arith}
 use mathlib.Core.Bool.{true}
 use mathlib.Core.Path.{◌≡◌, sym, ◌∙◌}

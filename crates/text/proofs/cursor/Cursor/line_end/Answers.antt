@@ -1,5 +1,4 @@
 -- `text::cursor::Cursor::line_end` meets its contract: at each turn no newline stands before it. Assumes nothing.
-use Prim.Native.Nat.{◌-◌}
 use mathlib.Core.Path.{sym, ap}
 use Rattle.text.specs.declared.cursor.LineEnd.TheVariants.{At}
 use Rattle.text.specs.Cursors.{line_end_at}

@@ -1,5 +1,4 @@
 -- `text::cursor::Cursor::numbers` meets its contract: at each turn the numbers before it are held. Assumes nothing.
-use Prim.Native.Nat.{◌-◌}
 use mathlib.Core.Path.{sym, ◌∙◌}
 use Rattle.text.specs.Cursors.{marks_at}
 use Rattle.text.proofs.Answers.{fields_answer, fields_refusal}

@@ -1,5 +1,4 @@
 -- `text::cursor::Cursor::word` meets its contract: at each turn the bytes before it are the same. Assumes nothing.
-use Prim.Native.Nat.{◌-◌}
 use Rattle.text.specs.Cursors.{word_at}
 use Rattle.text.proofs.Scanning.{word_first, word_short, word_other, word_step, word_last}
 use Rattle.text.proofs.Answers.{word_answer, word_refusal}

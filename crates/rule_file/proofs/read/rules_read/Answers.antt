@@ -1,0 +1,53 @@
+-- `rule_file::read::rules_read` meets its contract: the lines decide, and then what comes of their words. Assumes
+-- nothing.
+use Prim.Native.Nat.{ℕ, ◌*◌, ◌≤◌}
+use native.Mathlib.Omega.{arith}
+use mathlib.Core.Path.{◌≡◌, sym, subst}
+use lib.ListN.{length, replicate, length-replicate}
+use lib.Seq.{length-take-le}
+use Rattle.rules.specs.Words.{rule_words, most_rules}
+use Rattle.rule_file.specs.declared.kind.Kind.{Kind}
+use Rattle.rule_file.specs.declared.read.Read.{Read}
+use Rattle.rule_file.specs.declared.read.Read.TheVariants.{Rules}
+use Rattle.rule_file.specs.Kinds.{kind_of}
+use Rattle.rule_file.specs.RuleText.{lines_in}
+use Rattle.rule_file.specs.ReadSteps.{PassRead}
+use Rattle.rule_file.proofs.ReadAnswers.{text_refused, words_answer, stored_front}
+use Rattle.rule_file.proofs.read.rules_read.Goals as goal
+use Rattle.rule_file.proofs.read.rules_read.Goals.{After-read_lines}
+
+-- what reading the lines found
+found :
+    (p : goal.After-read_lines) {r : Read} → p.read_lines.result ≡ r →
+    let s = p.args.text.now in
+    PassRead (kind_of s) (lines_in s) (replicate (most_rules * rule_words) 0) p.read_lines.new.rules r
+found p e =
+    let s = p.args.text.now in
+    subst (PassRead (kind_of s) (lines_in s) (replicate (most_rules * rule_words) 0) _) e p.read_lines.ensures
+
+-- there is room for the words of as many rules as there may be
+room : length (replicate {A = ℕ} (most_rules * rule_words) 0) ≡ most_rules * rule_words
+room = length-replicate {A = ℕ} (most_rules * rule_words) 0
+
+-- the words that were counted are among them
+within :
+    (p : goal.After-read_lines) {n : ℕ} {k : Kind} → p.read_lines.result ≡ Rules n k →
+    n * rule_words ≤ length p.read_lines.new.rules
+within p e = omega (arith, (found p e).few, p.read_lines.auto.rules, room)
+
+pub overflow_mul-end : goal.overflow_mul-end
+overflow_mul-end c = omega (arith, (found (goal.at.overflow_mul-end c).After-read_lines c.in-Rules.is).few)
+
+pub slice_bounds-words-end : goal.slice_bounds-words-end
+slice_bounds-words-end c = within (goal.at.slice_bounds-words-end c).After-read_lines c.in-Rules.is
+
+pub slice_bounds-take_words-end : goal.slice_bounds-take_words-end
+slice_bounds-take_words-end c = sym (length-take-le _ c.read_lines.new.rules (within (goal.at.slice_bounds-take_words-end c).After-read_lines c.in-Rules.is))
+
+pub returns-in-Refused : goal.returns-in-Refused
+returns-in-Refused c = text_refused _ (found (goal.at.returns-in-Refused c).After-read_lines c.in-Refused.is)
+
+pub returns-in-Rules : goal.returns-in-Rules
+returns-in-Rules c = let stored = found (goal.at.returns-in-Rules c).After-read_lines c.in-Rules.is in
+    words_answer _ stored.words stored.says stored.kind
+    (rw (stored_front stored room) at c.take_words.ensures)

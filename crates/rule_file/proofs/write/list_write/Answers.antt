@@ -1,0 +1,28 @@
+-- `rule_file::write::list_write` meets its contract: the list decides first, to the actions of its kind. Assumes
+-- nothing.
+use Prim.Native.Nat.{ℕ}
+use mathlib.Core.Path.{◌≡◌, refl, sym, ap, ◌∙◌}
+use Rattle.refusals.proofs.Order.{then_refused}
+use Rattle.refusals.proofs.Promises.{writes_refused, writes_after}
+use Rattle.rules.specs.Good.{list_verdict_to}
+use Rattle.rule_file.specs.Kinds.{most_action}
+use Rattle.rule_file.proofs.write.list_write.Goals as goal
+use Rattle.rule_file.proofs.write.list_write.Goals.{After-verdict_to}
+
+-- what the list comes to
+verdict :
+    (v : goal.After-verdict_to) →
+    v.verdict_to.result ≡ list_verdict_to (most_action v.args.kind) v.args.rules.now
+verdict v =
+    v.verdict_to.ensures ∙ ap (λ (m : ℕ). list_verdict_to m v.args.rules.now) v.most_action.ensures
+
+pub write_whole-requires : goal.write_whole-requires
+write_whole-requires c = sym (verdict (goal.at.write_whole-requires c).After-verdict_to) ∙ c.in-Fine.is
+
+pub returns-in-Refused : goal.returns-in-Refused
+returns-in-Refused c = let list = sym (verdict (goal.at.returns-in-Refused c).After-verdict_to) ∙ c.in-Refused.is in
+    writes_refused (then_refused _ list) refl refl
+
+pub returns-in-Fine : goal.returns-in-Fine
+returns-in-Fine c = let list = sym (verdict (goal.at.returns-in-Fine c).After-verdict_to) ∙ c.in-Fine.is in
+    writes_after list c.write_whole.ensures

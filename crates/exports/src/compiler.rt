@@ -9,13 +9,7 @@ use builder::build::Built;
 use builder::step::Step;
 
 // The values: the numbers of nodes and pool words, which were written to `nodes` and `pool`.
-#[unsafe(no_mangle)]
-pub extern "C" fn wick_build(
-    rules: &[u32],
-    nodes: &mut [u32],
-    pool: &mut [u32],
-    answer: &mut [u64; 8],
-)
+pub fn wick_build(rules: &[u32], nodes: &mut [u32], pool: &mut [u32], answer: &mut [u64; 8])
     ensures { BuildAnswered rules.now nodes.old pool.old nodes.new
         pool.new answer.new }
 {
@@ -24,8 +18,7 @@ pub extern "C" fn wick_build(
 
 // The values: the numbers of nodes and pool words, which were written to `nodes` and `pool`; and 1 where the tree is
 // whole, else 0.
-#[unsafe(no_mangle)]
-pub extern "C" fn wick_build_some(
+pub fn wick_build_some(
     rules: &[u32],
     most: u64,
     nodes: &mut [u32],
@@ -39,8 +32,7 @@ pub extern "C" fn wick_build_some(
 }
 
 // The same values. The part was made for `count` rules.
-#[unsafe(no_mangle)]
-pub extern "C" fn wick_build_on(
+pub fn wick_build_on(
     rules: &[u32],
     count: u64,
     part: &[u32],

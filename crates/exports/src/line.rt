@@ -14,21 +14,14 @@ use rules::line::{First, Listed};
 use rules::miss::Missed;
 
 // The value: the number of rules.
-#[unsafe(no_mangle)]
-pub extern "C" fn wick_rule_check(rules: &[u32], answer: &mut [u64; 8])
+pub fn wick_rule_check(rules: &[u32], answer: &mut [u64; 8])
     ensures { RuleCheckAnswered rules.now answer.new }
 {
     *answer = of_checked(rules::check::rule_check(rules));
 }
 
 // The value: how many numbers were written to `out`.
-#[unsafe(no_mangle)]
-pub extern "C" fn wick_line_all(
-    rules: &[u32],
-    header: &[u32],
-    out: &mut [u32],
-    answer: &mut [u64; 8],
-)
+pub fn wick_line_all(rules: &[u32], header: &[u32], out: &mut [u32], answer: &mut [u64; 8])
     ensures { LineAllAnswered rules.now header.now out.old out.new
         answer.new }
 {
@@ -36,21 +29,14 @@ pub extern "C" fn wick_line_all(
 }
 
 // The values: the lowest number that matches and one more, or 0; and fourth the action of its rule, or 0.
-#[unsafe(no_mangle)]
-pub extern "C" fn wick_line_first(rules: &[u32], header: &[u32], answer: &mut [u64; 8])
+pub fn wick_line_first(rules: &[u32], header: &[u32], answer: &mut [u64; 8])
     ensures { LineFirstAnswered rules.now header.now answer.new }
 {
     *answer = of_first(rules::line::line_first(rules, header));
 }
 
 // The value: how many numbers were written to `out`.
-#[unsafe(no_mangle)]
-pub extern "C" fn wick_scan_all(
-    rules: &[u32],
-    header: &[u32],
-    out: &mut [u32],
-    answer: &mut [u64; 8],
-)
+pub fn wick_scan_all(rules: &[u32], header: &[u32], out: &mut [u32], answer: &mut [u64; 8])
     ensures { ScanAllAnswered rules.now header.now out.old out.new
         answer.new }
 {
@@ -58,21 +44,14 @@ pub extern "C" fn wick_scan_all(
 }
 
 // The values: the lowest number that matches and one more, or 0; and fourth the action of its rule, or 0.
-#[unsafe(no_mangle)]
-pub extern "C" fn wick_scan_first(rules: &[u32], header: &[u32], answer: &mut [u64; 8])
+pub fn wick_scan_first(rules: &[u32], header: &[u32], answer: &mut [u64; 8])
     ensures { ScanFirstAnswered rules.now header.now answer.new }
 {
     *answer = of_first(rules::line::scan_first(rules, header));
 }
 
 // The value: the lowest field of rule `number` that disagrees with the header, or 5 where the rule matches.
-#[unsafe(no_mangle)]
-pub extern "C" fn wick_rule_misses(
-    rules: &[u32],
-    header: &[u32],
-    number: u64,
-    answer: &mut [u64; 8],
-)
+pub fn wick_rule_misses(rules: &[u32], header: &[u32], number: u64, answer: &mut [u64; 8])
     ensures { RuleMissesAnswered rules.now header.now number answer.new }
 {
     *answer = of_missed(rules::miss::rule_misses(rules, header, number as usize));

@@ -10,8 +10,7 @@ use rule_file::kind::Kind;
 use rule_file::read::Read;
 
 // The value: the bytes that were written to `text`.
-#[unsafe(no_mangle)]
-pub extern "C" fn wick_rules_write(rules: &[u32], text: &mut [u8], answer: &mut [u64; 8])
+pub fn wick_rules_write(rules: &[u32], text: &mut [u8], answer: &mut [u64; 8])
     ensures { RulesWriteAnswered rules.now text.old text.new
         answer.new }
 {
@@ -19,8 +18,7 @@ pub extern "C" fn wick_rules_write(rules: &[u32], text: &mut [u8], answer: &mut 
 }
 
 // The value: the bytes that were written to `text`.
-#[unsafe(no_mangle)]
-pub extern "C" fn wick_acl_write(rules: &[u32], text: &mut [u8], answer: &mut [u64; 8])
+pub fn wick_acl_write(rules: &[u32], text: &mut [u8], answer: &mut [u64; 8])
     ensures { AclWriteAnswered rules.now text.old text.new
         answer.new }
 {
@@ -29,8 +27,7 @@ pub extern "C" fn wick_acl_write(rules: &[u32], text: &mut [u8], answer: &mut [u
 
 // The values: the number of rules, whose words were written to `rules`; and 1 for an `acl` file, or 0 for a `rules`
 // file.
-#[unsafe(no_mangle)]
-pub extern "C" fn wick_rules_read(text: &[u8], rules: &mut [u32], answer: &mut [u64; 8])
+pub fn wick_rules_read(text: &[u8], rules: &mut [u32], answer: &mut [u64; 8])
     ensures { RulesReadAnswered text.now rules.old rules.new
         answer.new }
 {

@@ -11,8 +11,7 @@ use tree_check::check::TreeAnswer;
 use trees::search::{TreeFirst, TreeListed};
 
 // The values: how many numbers were written to `out`, the nodes visited, the entries compared.
-#[unsafe(no_mangle)]
-pub extern "C" fn wick_tree_all(
+pub fn wick_tree_all(
     rules: &[u32],
     nodes: &[u32],
     pool: &[u32],
@@ -28,8 +27,7 @@ pub extern "C" fn wick_tree_all(
 
 // The values: the number of the first entry that matches and one more, or 0; the nodes visited, the entries compared;
 // the action of its rule, or 0.
-#[unsafe(no_mangle)]
-pub extern "C" fn wick_tree_first(
+pub fn wick_tree_first(
     rules: &[u32],
     nodes: &[u32],
     pool: &[u32],
@@ -43,8 +41,7 @@ pub extern "C" fn wick_tree_first(
 }
 
 // The values: the most cuts above a leaf, and the longest leaf.
-#[unsafe(no_mangle)]
-pub extern "C" fn wick_tree_check(rules: &[u32], nodes: &[u32], pool: &[u32], answer: &mut [u64; 8])
+pub fn wick_tree_check(rules: &[u32], nodes: &[u32], pool: &[u32], answer: &mut [u64; 8])
     ensures { TreeCheckAnswered rules.now nodes.now pool.now
         answer.new }
 {

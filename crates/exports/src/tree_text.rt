@@ -9,8 +9,7 @@ use crate::answer::{of_refusal, of_written};
 use tree_file::read::Read;
 
 // The value: the bytes that were written to `text`. The tree is for `rules` rules.
-#[unsafe(no_mangle)]
-pub extern "C" fn wick_tree_write(
+pub fn wick_tree_write(
     rules: u64,
     nodes: &[u32],
     pool: &[u32],
@@ -24,13 +23,7 @@ pub extern "C" fn wick_tree_write(
 }
 
 // The values: the numbers of rules, nodes and pool words; the last two were written to `nodes` and `pool`.
-#[unsafe(no_mangle)]
-pub extern "C" fn wick_tree_read(
-    text: &[u8],
-    nodes: &mut [u32],
-    pool: &mut [u32],
-    answer: &mut [u64; 8],
-)
+pub fn wick_tree_read(text: &[u8], nodes: &mut [u32], pool: &mut [u32], answer: &mut [u64; 8])
     ensures { TreeReadAnswered text.now nodes.old pool.old nodes.new
         pool.new answer.new }
 {
@@ -38,8 +31,7 @@ pub extern "C" fn wick_tree_read(
 }
 
 // The value: the bytes that were written to `text`. The part is for `rules` rules.
-#[unsafe(no_mangle)]
-pub extern "C" fn wick_part_write(
+pub fn wick_part_write(
     rules: u64,
     nodes: &[u32],
     pool: &[u32],
@@ -53,13 +45,7 @@ pub extern "C" fn wick_part_write(
 }
 
 // The values: the numbers of rules, nodes and pool words; the last two were written to `nodes` and `pool`.
-#[unsafe(no_mangle)]
-pub extern "C" fn wick_part_read(
-    text: &[u8],
-    nodes: &mut [u32],
-    pool: &mut [u32],
-    answer: &mut [u64; 8],
-)
+pub fn wick_part_read(text: &[u8], nodes: &mut [u32], pool: &mut [u32], answer: &mut [u64; 8])
     ensures { PartReadAnswered text.now nodes.old pool.old nodes.new
         pool.new answer.new }
 {

@@ -103,9 +103,9 @@ module _
           let entries : length w.entries ≡ length x.entries = cc in
           let room : length x.words ≤ length nodes = omega (arith, w.size, ap length same) in
           let more : length x.entries ≤ length pool = omega (arith, w.total, ap length also) in
+          let count : node_count x.words ≡ m' = omega (arith, x.size) in
           let fine = then_fine _ ((room_fine_iff (length x.words) (length nodes)).1 room) ∙
-          holds_fine _ (le-leb (length x.entries) (length pool) more) in
-          let count : node_count x.words ≡ m' = omega (arith, x.size) in (
+          holds_fine _ (le-leb (length x.entries) (length pool) more) in (
             writes_fine (rw x.says fine) (rw (x.says, count, x.total))
                 (x.nodes_are ∙ ap (λ (l : List ℕ). sets l 0 x.words) same ∙ sets_written x.words nodes room ∙
                 rw x.says),

@@ -1,0 +1,21 @@
+-- `tree_file::read::first_line` meets its contract: the line is read, and then its counts decide. Assumes nothing.
+use native.Mathlib.Omega.{arith}
+use Rattle.facts.proofs.Bools.{held, failed}
+use Rattle.text.proofs.NextLines.{line_next, line_refused}
+use Rattle.tree_file.proofs.FirstLines.{first_not, first_wrong, first_taken}
+use Rattle.tree_file.proofs.read.first_line.Goals as goal
+
+pub returns-then-not-counts_fit : goal.returns-then-not-counts_fit
+returns-then-not-counts_fit c = first_wrong (omega (arith, c.well_formed))
+    (line_next _ _ _ _ c.line-read.ensures c.in-Next.is) c.wide-rules.ensures
+    c.wide-nodes.ensures c.wide-pool.ensures
+    (failed c.counts_fit.ensures c.if-not-counts_fit.true) c.wrong.ensures
+
+pub returns-in-Refused : goal.returns-in-Refused
+returns-in-Refused c = first_not (omega (arith, c.well_formed))
+    (line_refused _ _ _ _ c.line-read.ensures c.in-Refused.is)
+
+pub returns-else-not-counts_fit : goal.returns-else-not-counts_fit
+returns-else-not-counts_fit c = first_taken (omega (arith, c.well_formed))
+    (line_next _ _ _ _ c.line-read.ensures c.in-Next.is) c.wide-rules.ensures
+    c.wide-nodes.ensures c.wide-pool.ensures (held c.counts_fit.ensures c.if-not-counts_fit.false)

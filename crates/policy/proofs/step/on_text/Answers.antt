@@ -1,0 +1,13 @@
+-- `policy::step::on_text` meets its contract: the part's nodes and some more are built, and what stands then is
+-- written. Assumes nothing.
+use native.Mathlib.Omega.{arith}
+use Rattle.policy.proofs.StepTexts.{step_within, step_written}
+use Rattle.policy.proofs.StepSize.{step_spelling, on_judged}
+use Rattle.policy.proofs.step.on_text.Goals as goal
+
+pub step_text-requires : goal.step_text-requires
+step_text-requires c = step_within _ _ _ _ _ (omega arith) (omega arith) _ c.build_on-step.ensures
+
+pub returns : goal.returns
+returns c = step_written _ _ _ _ _ (omega arith) (omega arith) _ c.build_on-step.ensures _
+    (step_spelling _ (on_judged _ _ _ _ _)) c.step_text.ensures

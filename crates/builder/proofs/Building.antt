@@ -1,5 +1,5 @@
 -- Growing from the root into words of its own: a refusal stores nothing, and what fits is stored.
-use Prim.Native.Nat.{ℕ, ◌*◌, ◌≤◌, min}
+use Prim.Native.Nat.{ℕ, ◌*◌, ◌≤◌}
 use native.Mathlib.Nat.{min-le_left, min-le_right}
 use native.Mathlib.Omega.{arith}
 use mathlib.Core.Bool.{Bool}
@@ -7,7 +7,6 @@ use mathlib.Core.Path.{◌≡◌, sym, ◌∙◌}
 use mathlib.Core.List.{List}
 use lib.ListN.{length, take}
 use lib.Seq.{sets, length-take-le}
-use Rattle.facts.specs.Lists.{written}
 use Rattle.facts.proofs.Sets.{sets_front}
 use Rattle.facts.proofs.Setting.{written_front}
 use Rattle.refusals.specs.declared.Refusal.{Refusal}

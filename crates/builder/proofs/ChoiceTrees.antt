@@ -1,5 +1,5 @@
 -- The tree of a part, by what its node is: the choice of the code says what stands in the definition.
-use Prim.Native.Nat.{ℕ, zero, suc, ◌+◌, ◌-◌, ◌<◌, ◌≤◌}
+use Prim.Native.Nat.{ℕ, zero, suc, ◌+◌, ◌-◌, ◌<◌}
 use native.Mathlib.Omega.{arith}
 use mathlib.Core.Bool.{true, false, cond}
 use mathlib.Core.Path.{◌≡◌, refl, sym, ◌∙◌}
@@ -13,7 +13,7 @@ use Rattle.fields.specs.Cuts.{left_part, right_part}
 use Rattle.fields.proofs.Cuts.{left_divided, right_divided}
 use Rattle.trees.specs.declared.words.Node.{Node}
 use Rattle.trees.specs.declared.words.Node.TheVariants as node
-use Rattle.trees.specs.Words.{node_count, entries}
+use Rattle.trees.specs.Words.{entries}
 use Rattle.trees.specs.Node.{node_at}
 use Rattle.trees.proofs.Nodes.{missing_means, leaf_is, cut_is}
 use Rattle.built.specs.Boxes.{meeting}
@@ -24,7 +24,6 @@ use Rattle.built.specs.GrownOn.{grown_on}
 use Rattle.built.proofs.Chosen.{chosen_divides}
 use Rattle.built.proofs.GrownTrees.{grown_zero, grown_stops, grown_divided}
 use Rattle.built.proofs.GrowingOn.{on_missing, on_leaf, on_deep, on_cut}
-use Rattle.builder.specs.declared.choice.Choice.{Choice}
 use Rattle.builder.specs.declared.choice.Choice.TheVariants as choice
 use Rattle.builder.specs.Choices.{fresh_choice, choice_in, choice_of}
 

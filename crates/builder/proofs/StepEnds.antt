@@ -1,10 +1,9 @@
 -- Where a step stops, by the tests that the code makes.
-use Prim.Native.Nat.{ℕ, ◌+◌, ◌-◌, ◌≤◌, ◌<◌, min, max}
+use Prim.Native.Nat.{ℕ, ◌+◌, ◌-◌, ◌≤◌, ◌<◌, max}
 use native.Mathlib.Nat.{min-eq_left, min-eq_right, max-eq_left, max-eq_right}
 use native.Mathlib.Omega.{arith}
-use mathlib.Core.Path.{◌≡◌, sym, ◌∙◌}
+use mathlib.Core.Path.{◌≡◌, sym}
 use Rattle.trees.specs.Words.{most_nodes}
-use Rattle.builder.specs.Build.{at_least_one}
 use Rattle.builder.specs.BuildSteps.{most_end, end_of}
 
 module _ (k most : ℕ) (few : k ≤ most_nodes) where

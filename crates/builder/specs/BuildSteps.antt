@@ -6,7 +6,7 @@
 --                      both outputs where they fit
 --   most_end           no node from here on is grown: a tree has no room for the one before it
 --   end_of k most       where a step stops that begins with k nodes: so many nodes on, but not past that end
-use Rattle.std.specs.Prelude.{ℕ, ◌+◌, ◌*◌, ◌≤◌, min, max, ◌≡◌, List, length}
+use Rattle.std.specs.Prelude.{ℕ, ◌+◌, ◌*◌, ◌≤◌, min, ◌≡◌, List, length}
 use Rattle.facts.specs.Lists.{written}
 use Rattle.refusals.specs.Order.{leaving}
 use Rattle.rules.specs.Words.{most_rules}

@@ -2,7 +2,6 @@
 //! hand.
 
 mod ports;
-mod refusals;
 mod worked;
 
 use oracle::boxes::{box_of, root_box, Side};
@@ -11,8 +10,7 @@ use oracle::rule_file::{list_text, Kind};
 use oracle::rules::rule_of;
 use oracle::tree_file::tree_text;
 use oracle::{line_all, line_first, program, rule_check, scan_all, scan_first, tree_all, tree_first, Answer};
-use ports::{head, with, Rule, EVERYTHING, PORTS};
-use refusals::refused;
+use ports::{head, refused, with, Rule, EVERYTHING, PORTS};
 use worked::{header, policy, ADDRESS_10_1_2_3, AS_FOUND, NODES, POOL};
 
 /// Does the rule match, by the scans and by a tree of one leaf, which judge no rule?

@@ -2,13 +2,11 @@
 //! trees and parts from before a port could be absent. Every answer was worked out by hand.
 
 mod ports;
-mod refusals;
 mod worked;
 
 use oracle::build::{compile, LARGEST_ROOM};
 use oracle::{build_on, build_some, line_all, tree_all, tree_check, tree_first, Answer};
-use ports::{head, with, Rule, EVERYTHING, PORTS};
-use refusals::refused;
+use ports::{head, refused, with, Rule, EVERYTHING, PORTS};
 use worked::AS_FOUND;
 
 /// A cut at this value of this field, with these entries in its two leaves.

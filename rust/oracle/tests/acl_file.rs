@@ -1,11 +1,9 @@
 //! The rules file of kind `acl`, which has the actions, and how the two kinds are told apart.
 
-mod refusals;
 mod texts;
 mod worked;
 
 use oracle::{acl_write, rules_read, rules_write, Answer};
-use refusals::refused_at;
 use texts::{changed, cut_everywhere, BYTE_AS_FOUND};
 use worked::{policy, AS_FOUND};
 
@@ -23,11 +21,15 @@ fn with_actions(actions: [u32; 3]) -> Vec<u32> {
     words
 }
 
+fn refused(number: u64, place: u64) -> Answer {
+    Answer { number, place, extra: 0, a: 0, b: 0, c: 0, d: 0 }
+}
+
 /// The text is refused so, with room and without, and nothing is written.
 fn expect_refused(text: &str, number: u64, place: u64) {
     for room in [0, 33, 50] {
         let mut rules = vec![AS_FOUND; room];
-        assert_eq!(rules_read(text.as_bytes(), &mut rules), refused_at(number, place), "{text:?}");
+        assert_eq!(rules_read(text.as_bytes(), &mut rules), refused(number, place), "{text:?}");
         assert!(rules.iter().all(|&word| word == AS_FOUND));
     }
 }
@@ -86,7 +88,7 @@ fn the_room_is_eleven_words_a_rule_for_both_kinds() {
     for text in [TEXT, &plain_text()] {
         for room in [0, 30, 32] {
             let mut rules = vec![AS_FOUND; room];
-            assert_eq!(rules_read(text.as_bytes(), &mut rules), refused_at(4, 33));
+            assert_eq!(rules_read(text.as_bytes(), &mut rules), refused(4, 33));
             assert!(rules.iter().all(|&word| word == AS_FOUND));
         }
     }
@@ -136,13 +138,13 @@ fn a_text_that_is_cut_is_10_after_its_whole_lines() {
 fn a_writer_refuses_with_1_2_11_then_4() {
     let mut text = [BYTE_AS_FOUND; 200];
     let words = with_actions([1, 255, 0]);
-    assert_eq!(acl_write(&words, &mut text[..TEXT.len() - 1]), refused_at(4, TEXT.len() as u64));
+    assert_eq!(acl_write(&words, &mut text[..TEXT.len() - 1]), refused(4, TEXT.len() as u64));
     let twins = [&words[..], &words[..10], &[9]].concat();
-    assert_eq!(acl_write(&twins, &mut []), refused_at(11, 3));
+    assert_eq!(acl_write(&twins, &mut []), refused(11, 3));
     let mut bad = twins.clone();
     bad[32] = 256;
-    assert_eq!(acl_write(&bad, &mut []), refused_at(2, 2));
-    assert_eq!(acl_write(&bad[..40], &mut []), refused_at(1, 0));
+    assert_eq!(acl_write(&bad, &mut []), refused(2, 2));
+    assert_eq!(acl_write(&bad[..40], &mut []), refused(1, 0));
     assert_eq!(text, [BYTE_AS_FOUND; 200]);
 }
 
@@ -154,18 +156,18 @@ fn the_writer_without_actions_refuses_them_with_2() {
         // With room and without, and with twins: 2 is first.
         let twins = [&words[..], &words[..10], &[0]].concat();
         for words in [words, twins] {
-            assert_eq!(rules_write(&words, &mut text), refused_at(2, place));
-            assert_eq!(rules_write(&words, &mut []), refused_at(2, place));
+            assert_eq!(rules_write(&words, &mut text), refused(2, place));
+            assert_eq!(rules_write(&words, &mut []), refused(2, place));
         }
     }
     // A rule that is not good in another word counts as well, whichever is lower.
     for (bad, action, place) in [(0, 2, 0), (2, 0, 0), (1, 2, 1), (2, 1, 1)] {
         let mut words = policy();
         (words[11 * bad + 1], words[11 * action + 10]) = (33, 5);
-        assert_eq!(rules_write(&words, &mut text), refused_at(2, place));
+        assert_eq!(rules_write(&words, &mut text), refused(2, place));
     }
-    assert_eq!(rules_write(&with_actions([0, 5, 0])[..32], &mut text), refused_at(1, 0));
+    assert_eq!(rules_write(&with_actions([0, 5, 0])[..32], &mut text), refused(1, 0));
     let twins = [&policy()[..], &policy()[..11]].concat();
-    assert_eq!(rules_write(&twins, &mut []), refused_at(11, 3));
+    assert_eq!(rules_write(&twins, &mut []), refused(11, 3));
     assert_eq!(text, [BYTE_AS_FOUND; 300]);
 }

@@ -1,14 +1,16 @@
 //! The action of a rule: how large it may be, that a first-match gives it, and that nothing else looks at it.
 
-mod refusals;
 mod worked;
 
 use oracle::{
     acl_write, build, build_some, line_all, line_first, rule_check, rules_write, scan_all, scan_first, tree_all,
     tree_check, tree_first, Answer,
 };
-use refusals::refused;
 use worked::{header, policy, ADDRESS_10_1_2_3, AS_FOUND, NODES, POOL};
+
+fn refused(number: u64, place: u64, extra: u64) -> Answer {
+    Answer { number, place, extra, a: 0, b: 0, c: 0, d: 0 }
+}
 
 /// The worked policy with these actions.
 fn with_actions(actions: [u32; 3]) -> Vec<u32> {

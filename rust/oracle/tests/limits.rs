@@ -1,9 +1,6 @@
 //! The limits of rules, lists, headers and rooms, on both sides.
 
-mod refusals;
-
 use oracle::{line_all, line_first, rule_check, Answer};
-use refusals::refused_at;
 
 const EVERYTHING: [u32; 11] = [0, 0, 0, 0, 0, 65_535, 0, 65_535, 0, 255, 0];
 const HEADER: [u32; 5] = [0x0A01_0203, 0xC0A8_0001, 40_000, 80, 6];
@@ -18,6 +15,10 @@ fn with(word: usize, value: u32) -> [u32; 11] {
 /// So many rules. They differ in the ends of the source port, and all match `HEADER`.
 fn many(rules: u32) -> Vec<u32> {
     (0..rules).flat_map(|number| [0, 0, 0, 0, number, 65_535 - number, 0, 65_535, 0, 255, 0]).collect()
+}
+
+fn refused(number: u64, place: u64) -> Answer {
+    Answer { number, place, extra: 0, a: 0, b: 0, c: 0, d: 0 }
 }
 
 fn matches(rule: &[u32; 11], header: &[u32; 5]) -> bool {
@@ -62,8 +63,8 @@ fn the_prefix_is_its_range() {
 #[test]
 fn length_33_and_stray_bits_are_2() {
     for word in [0, 2] {
-        assert_eq!(rule_check(&with(word + 1, 33)), refused_at(2, 0));
-        assert_eq!(rule_check(&with(word + 1, u32::MAX)), refused_at(2, 0));
+        assert_eq!(rule_check(&with(word + 1, 33)), refused(2, 0));
+        assert_eq!(rule_check(&with(word + 1, u32::MAX)), refused(2, 0));
         for length in 0..32 {
             for bit in 0..32 {
                 let mut rule = with(word, 1 << bit);
@@ -71,7 +72,7 @@ fn length_33_and_stray_bits_are_2() {
                 // Bit 31 is the first of the address, so it is past the length only where the length is 0.
                 let good = 31 - bit < length;
                 assert_eq!(rule_check(&rule) == Answer::completed(1, 0, 0), good);
-                assert_eq!(rule_check(&rule) == refused_at(2, 0), !good);
+                assert_eq!(rule_check(&rule) == refused(2, 0), !good);
             }
         }
     }
@@ -82,11 +83,11 @@ fn ranges_over_their_limit_or_turned_round_are_2() {
     for (word, largest) in [(4, 65_535), (6, 65_535), (8, 255)] {
         assert_eq!(rule_check(&with(word, largest)), Answer::completed(1, 0, 0));
         assert_eq!(rule_check(&with(word + 1, 0)), Answer::completed(1, 0, 0));
-        assert_eq!(rule_check(&with(word, largest + 1)), refused_at(2, 0));
-        assert_eq!(rule_check(&with(word + 1, largest + 1)), refused_at(2, 0));
+        assert_eq!(rule_check(&with(word, largest + 1)), refused(2, 0));
+        assert_eq!(rule_check(&with(word + 1, largest + 1)), refused(2, 0));
         let mut turned = with(word, 8);
         turned[word + 1] = 7;
-        assert_eq!(rule_check(&turned), refused_at(2, 0));
+        assert_eq!(rule_check(&turned), refused(2, 0));
     }
 }
 
@@ -102,9 +103,9 @@ fn a_list_holds_512_rules_and_not_513() {
 
     let longer = many(513);
     let mut out = [7_777; 513];
-    assert_eq!(rule_check(&longer), refused_at(1, 0));
-    assert_eq!(line_all(&longer, &HEADER, &mut out), refused_at(1, 0));
-    assert_eq!(line_first(&longer, &HEADER), refused_at(1, 0));
+    assert_eq!(rule_check(&longer), refused(1, 0));
+    assert_eq!(line_all(&longer, &HEADER, &mut out), refused(1, 0));
+    assert_eq!(line_first(&longer, &HEADER), refused(1, 0));
     assert_eq!(out, [7_777; 513]);
 }
 
@@ -122,28 +123,28 @@ fn no_rules_and_no_room_is_a_completed_search() {
 fn the_lowest_bad_rule_is_named_even_after_the_first_match() {
     let mut list = many(5);
     list[4 * 11 + 1] = 33;
-    assert_eq!(rule_check(&list), refused_at(2, 4));
-    assert_eq!(line_first(&list, &HEADER), refused_at(2, 4));
+    assert_eq!(rule_check(&list), refused(2, 4));
+    assert_eq!(line_first(&list, &HEADER), refused(2, 4));
     list[2 * 11 + 9] = 256;
-    assert_eq!(rule_check(&list), refused_at(2, 2));
+    assert_eq!(rule_check(&list), refused(2, 2));
 }
 
 #[test]
 fn refusals_come_in_order() {
     let mut list = EVERYTHING.to_vec();
     let mut header = HEADER.to_vec();
-    assert_eq!(line_all(&list, &header, &mut []), refused_at(4, 1));
+    assert_eq!(line_all(&list, &header, &mut []), refused(4, 1));
     header[3] = 65_537;
     header[4] = 256;
-    assert_eq!(line_all(&list, &header, &mut []), refused_at(3, 3));
+    assert_eq!(line_all(&list, &header, &mut []), refused(3, 3));
     header[2] = u32::MAX;
-    assert_eq!(line_all(&list, &header, &mut []), refused_at(3, 2));
+    assert_eq!(line_all(&list, &header, &mut []), refused(3, 2));
     header.push(0);
-    assert_eq!(line_all(&list, &header, &mut []), refused_at(3, 5));
-    assert_eq!(line_all(&list, &[], &mut []), refused_at(3, 5));
+    assert_eq!(line_all(&list, &header, &mut []), refused(3, 5));
+    assert_eq!(line_all(&list, &[], &mut []), refused(3, 5));
     list[1] = 33;
-    assert_eq!(line_all(&list, &header, &mut []), refused_at(2, 0));
+    assert_eq!(line_all(&list, &header, &mut []), refused(2, 0));
     list.push(0);
-    assert_eq!(line_all(&list, &header, &mut []), refused_at(1, 0));
-    assert_eq!(line_first(&list, &header), refused_at(1, 0));
+    assert_eq!(line_all(&list, &header, &mut []), refused(1, 0));
+    assert_eq!(line_first(&list, &header), refused(1, 0));
 }

@@ -1,12 +1,10 @@
 //! Why a rule missed: the lowest field that disagrees, and the order of the refusals.
 
 mod ports;
-mod refusals;
 mod worked;
 
 use oracle::{line_all, rule_misses, Answer};
-use ports::{with, Rule};
-use refusals::refused;
+use ports::{refused, with, Rule};
 use worked::{header, policy, ADDRESS_10_1_2_3};
 
 /// A rule that is narrow in every field, and a header that it matches.

@@ -1,11 +1,9 @@
 //! The part file: the tree file with another first word, which each of the two readers takes for its own only.
 
-mod refusals;
 mod texts;
 mod worked;
 
 use oracle::{part_read, part_write, tree_read, tree_write, Answer};
-use refusals::refused;
 use texts::{changed, cut_everywhere, BYTE_AS_FOUND};
 use worked::AS_FOUND;
 
@@ -18,6 +16,10 @@ leaf\t1\t1\t2
 cut\t2\t0\t184549375\t0
 end\t4
 ";
+
+fn refused(number: u64, place: u64, extra: u64) -> Answer {
+    Answer { number, place, extra, a: 0, b: 0, c: 0, d: 0 }
+}
 
 /// Reads the part into so many words of nodes and pool, which stay as found where it is refused.
 fn read(text: &str, node_room: usize, pool_room: usize) -> Answer {

@@ -1,11 +1,9 @@
 //! The rules file: the worked policy's, and texts and lists that are refused.
 
-mod refusals;
 mod texts;
 mod worked;
 
 use oracle::{rules_read, rules_write, Answer};
-use refusals::refused_at;
 use texts::{changed, cut_everywhere, BYTE_AS_FOUND};
 use worked::{policy, AS_FOUND};
 
@@ -16,11 +14,15 @@ rule\t2\t0.0.0.0/0\t0.0.0.0/0\t0\t65535\t0\t65535\t0\t255
 end\t4
 ";
 
+fn refused(number: u64, place: u64) -> Answer {
+    Answer { number, place, extra: 0, a: 0, b: 0, c: 0, d: 0 }
+}
+
 /// The text is refused so, with room and without, and nothing is written.
 fn expect_refused(text: &str, number: u64, place: u64) {
     for room in [0, 33, 50] {
         let mut rules = vec![AS_FOUND; room];
-        assert_eq!(rules_read(text.as_bytes(), &mut rules), refused_at(number, place), "{text:?}");
+        assert_eq!(rules_read(text.as_bytes(), &mut rules), refused(number, place), "{text:?}");
         assert!(rules.iter().all(|&word| word == AS_FOUND));
     }
 }
@@ -56,13 +58,13 @@ fn the_policy_is_written_and_read_back() {
 fn a_writer_refuses_with_1_2_then_4() {
     let mut text = [BYTE_AS_FOUND; 200];
     let length = TEXT.len();
-    assert_eq!(rules_write(&policy(), &mut text[..length - 1]), refused_at(4, length as u64));
-    assert_eq!(rules_write(&policy(), &mut []), refused_at(4, length as u64));
+    assert_eq!(rules_write(&policy(), &mut text[..length - 1]), refused(4, length as u64));
+    assert_eq!(rules_write(&policy(), &mut []), refused(4, length as u64));
     let mut bad = policy();
     bad[20] = 256;
-    assert_eq!(rules_write(&bad, &mut []), refused_at(2, 1));
-    assert_eq!(rules_write(&bad[..32], &mut text), refused_at(1, 0));
-    assert_eq!(rules_write(&policy().repeat(171), &mut text), refused_at(1, 0));
+    assert_eq!(rules_write(&bad, &mut []), refused(2, 1));
+    assert_eq!(rules_write(&bad[..32], &mut text), refused(1, 0));
+    assert_eq!(rules_write(&policy().repeat(171), &mut text), refused(1, 0));
     assert_eq!(text, [BYTE_AS_FOUND; 200]);
 }
 
@@ -70,7 +72,7 @@ fn a_writer_refuses_with_1_2_then_4() {
 fn room_that_is_short_is_4_with_the_words_needed() {
     for room in [0, 1, 30, 32] {
         let mut rules = vec![AS_FOUND; room];
-        assert_eq!(rules_read(TEXT.as_bytes(), &mut rules), refused_at(4, 33));
+        assert_eq!(rules_read(TEXT.as_bytes(), &mut rules), refused(4, 33));
         assert!(rules.iter().all(|&word| word == AS_FOUND));
     }
     assert_eq!(rules_read(b"rules\t0\nend\t1\n", &mut []), Answer::completed(0, 0, 0));
@@ -173,7 +175,7 @@ fn a_file_holds_512_rules_and_not_513() {
     let mut rules = vec![AS_FOUND; 5_633];
     assert_eq!(rules_read(text_of(512).as_bytes(), &mut rules), Answer::completed(512, 0, 0));
     assert_eq!(rules[5_632], AS_FOUND);
-    assert_eq!(rules_read(text_of(512).as_bytes(), &mut rules[..5_631]), refused_at(4, 5_632));
+    assert_eq!(rules_read(text_of(512).as_bytes(), &mut rules[..5_631]), refused(4, 5_632));
     expect_refused(&text_of(513), 9, 1);
     let mut text = vec![0; text_of(512).len()];
     assert_eq!(rules_write(&rules[..5_632], &mut text), Answer::completed(text.len() as u64, 0, 0));

@@ -1,13 +1,11 @@
 //! Builds that stop and go on: every stop of a small tree, worked out by hand, and parts that others have made.
 
-mod refusals;
 mod worked;
 
 use oracle::build::{compile, Room, LARGEST_ROOM};
 use oracle::parts::TreeWords;
 use oracle::stops::{begin, go_on, Come};
 use oracle::{build_on, build_some, tree_check, Answer, Refusal};
-use refusals::refused;
 use worked::{policy, AS_FOUND};
 
 type Rule = [u32; 11];
@@ -41,6 +39,10 @@ fn stop(nodes: usize) -> TreeWords {
 
 fn words(nodes: &[[u32; 3]], pool: &[u32]) -> TreeWords {
     TreeWords { nodes: nodes.concat(), pool: pool.to_vec() }
+}
+
+fn refused(number: u64, place: u64, extra: u64) -> Answer {
+    Answer { number, place, extra, a: 0, b: 0, c: 0, d: 0 }
 }
 
 /// Expects the call to give these words, with exact room and with more, and to say whether they are whole.

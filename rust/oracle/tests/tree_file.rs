@@ -1,11 +1,9 @@
 //! The tree file: the worked policy's, and texts and trees that are refused.
 
-mod refusals;
 mod texts;
 mod worked;
 
 use oracle::{tree_read, tree_write, Answer};
-use refusals::refused;
 use texts::{changed, cut_everywhere, BYTE_AS_FOUND};
 use worked::{AS_FOUND, NODES, POOL};
 
@@ -17,6 +15,10 @@ leaf\t3\t3\t0\t1\t2
 leaf\t4\t1\t2
 end\t6
 ";
+
+fn refused(number: u64, place: u64, extra: u64) -> Answer {
+    Answer { number, place, extra, a: 0, b: 0, c: 0, d: 0 }
+}
 
 /// Reads the text into so many words of nodes and pool, which stay as found where it is refused.
 fn read(text: &str, node_room: usize, pool_room: usize) -> Answer {

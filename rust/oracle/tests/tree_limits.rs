@@ -1,14 +1,15 @@
 //! The limits of trees, on both sides, and the order in which the tree check tells faults.
 
-mod refusals;
-
 use oracle::{tree_all, tree_check, tree_first, Answer};
-use refusals::refused;
 
 const EVERYTHING: [u32; 11] = [0, 0, 0, 0, 0, 65_535, 0, 65_535, 0, 255, 0];
 
 /// Two rules that meet every box of the trees below, which are cut by the protocol alone.
 const TWO_RULES: [[u32; 11]; 2] = [EVERYTHING, [0, 0, 0, 0, 0, 65_535, 80, 80, 0, 255, 0]];
+
+fn refused(number: u64, place: u64, extra: u64) -> Answer {
+    Answer { number, place, extra, a: 0, b: 0, c: 0, d: 0 }
+}
 
 /// So many cuts one below the other, each the left child of the one above, and their leaves, all of count 0.
 fn left_chain(cuts: u32) -> Vec<u32> {

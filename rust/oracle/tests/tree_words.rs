@@ -1,21 +1,22 @@
 //! Tree search on words that no check would accept.
 
-mod refusals;
-
 use oracle::{tree_all, tree_first, Answer};
-use refusals::refused_at;
 
 const EVERYTHING: [u32; 11] = [0, 0, 0, 0, 0, 65_535, 0, 65_535, 0, 255, 0];
 const HEADER: [u32; 5] = [7, 7, 7, 7, 7];
+
+fn refused(number: u64, place: u64) -> Answer {
+    Answer { number, place, extra: 0, a: 0, b: 0, c: 0, d: 0 }
+}
 
 /// Expects both searches to refuse so, with room and without.
 fn expect_refused(rules: &[u32], nodes: &[u32], pool: &[u32], number: u64, place: u64) {
     for room in [0, 9] {
         let mut out = vec![7_777; room];
-        assert_eq!(tree_all(rules, nodes, pool, &HEADER, &mut out), refused_at(number, place));
+        assert_eq!(tree_all(rules, nodes, pool, &HEADER, &mut out), refused(number, place));
         assert!(out.iter().all(|&word| word == 7_777));
     }
-    assert_eq!(tree_first(rules, nodes, pool, &HEADER), refused_at(number, place));
+    assert_eq!(tree_first(rules, nodes, pool, &HEADER), refused(number, place));
 }
 
 #[test]
@@ -66,12 +67,12 @@ fn entries_may_fall_and_repeat() {
     let answer = tree_all(&rules, &[5, 1, 5], &[9, 2, 1, 1, 0, 2], &HEADER, &mut out);
     assert_eq!(answer, Answer::completed(5, 1, 5));
     assert_eq!(out, [2, 1, 1, 0, 2, 7_777]);
-    assert_eq!(tree_all(&rules, &[5, 1, 5], &[9, 2, 1, 1, 0, 2], &HEADER, &mut [0; 4]), refused_at(4, 5));
+    assert_eq!(tree_all(&rules, &[5, 1, 5], &[9, 2, 1, 1, 0, 2], &HEADER, &mut [0; 4]), refused(4, 5));
     assert_eq!(tree_first(&rules, &[5, 1, 5], &[9, 2, 1, 1, 0, 2], &HEADER), Answer::completed(3, 1, 1));
 }
 
 #[test]
 fn the_header_is_judged_first() {
-    assert_eq!(tree_first(&[], &[], &[], &[0; 4]), refused_at(3, 5));
-    assert_eq!(tree_all(&[], &[], &[], &[0, 0, 0, 65_537, 256], &mut []), refused_at(3, 3));
+    assert_eq!(tree_first(&[], &[], &[], &[0; 4]), refused(3, 5));
+    assert_eq!(tree_all(&[], &[], &[], &[0, 0, 0, 65_537, 256], &mut []), refused(3, 3));
 }

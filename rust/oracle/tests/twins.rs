@@ -1,6 +1,5 @@
 //! Lists in which a later rule has the words of an earlier one, whatever their actions.
 
-mod refusals;
 mod texts;
 mod worked;
 
@@ -10,9 +9,12 @@ use oracle::{
     acl_write, build, line_all, line_first, program, rule_check, rules_read, rules_write, scan_all, scan_first,
     tree_all, tree_check, Answer,
 };
-use refusals::refused;
 use texts::{cut_everywhere, BYTE_AS_FOUND};
 use worked::{header, policy, ADDRESS_10_1_2_3, AS_FOUND, NODES, POOL};
+
+fn refused(number: u64, place: u64, extra: u64) -> Answer {
+    Answer { number, place, extra, a: 0, b: 0, c: 0, d: 0 }
+}
 
 /// These rules of the worked policy, in this order.
 fn list(numbers: &[usize]) -> Vec<u32> {

@@ -1,10 +1,8 @@
 //! The tree rows of the scope's worked policy.
 
-mod refusals;
 mod worked;
 
 use oracle::{tree_all, tree_check, tree_first, Answer};
-use refusals::refused;
 use worked::{header, policy, ADDRESS_10_1_2_3, AS_FOUND, NODES, POOL};
 
 /// Expects this list after so many nodes and entries, with exact room and with more, and its first number after
@@ -20,6 +18,10 @@ fn expect_list(header: [u32; 5], list: &[u32], visited: u64, compared: u64, firs
     }
     let answer = tree_first(&policy(), &NODES.concat(), &POOL, &header);
     assert_eq!(answer, Answer::completed(u64::from(list[0]) + 1, visited, first_after));
+}
+
+fn refused(number: u64, place: u64, extra: u64) -> Answer {
+    Answer { number, place, extra, a: 0, b: 0, c: 0, d: 0 }
 }
 
 #[test]

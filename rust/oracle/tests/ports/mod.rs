@@ -3,6 +3,8 @@
 // Each test takes what it needs of it.
 #![allow(dead_code)]
 
+use oracle::Answer;
+
 pub type Rule = [u32; 11];
 
 pub const EVERYTHING: Rule = [0, 0, 0, 0, 0, 65_535, 0, 65_535, 0, 255, 0];
@@ -22,4 +24,8 @@ pub fn head(field: usize, value: u32) -> [u32; 5] {
     let mut header = [7; 5];
     header[field] = value;
     header
+}
+
+pub fn refused(number: u64, place: u64, extra: u64) -> Answer {
+    Answer { number, place, extra, a: 0, b: 0, c: 0, d: 0 }
 }

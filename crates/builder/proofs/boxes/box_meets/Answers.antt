@@ -1,6 +1,5 @@
 -- `builder::boxes::box_meets` meets its contract: a field that does not meet ends it. The invariant: the fields before
 -- this one meet. Assumes nothing.
-use Prim.Native.Nat.{◌-◌}
 use native.Mathlib.Omega.{arith}
 use mathlib.Core.Path.{◌∙◌}
 use Rattle.facts.proofs.Bools.{held, failed}

@@ -1,11 +1,10 @@
 -- `builder::boxes::fill_boxes` meets its contract. The invariant: the sides before this one stand in the words.
 -- Assumes nothing.
-use Prim.Native.Nat.{ℕ, ◌*◌, ◌-◌, ◌^◌, ◌<◌}
+use Prim.Native.Nat.{ℕ, ◌*◌, ◌^◌, ◌<◌}
 use native.Mathlib.Omega.{arith}
 use mathlib.Core.Path.{◌≡◌, refl, ap, ◌∙◌}
 use lib.ListN.{length, get_or}
 use lib.Seq.{length-sets}
-use borrow.Author.Rules.{rules}
 use Rattle.fields.specs.Words.{address_bits, field_count}
 use Rattle.rules.specs.Words.{rule_count}
 use Rattle.builder.proofs.Sides.{sides_first, side_found, sides_step, sides_last}

@@ -3,7 +3,6 @@
 use Prim.Native.Nat.{◌*◌, ◌-◌, ◌≤◌}
 use mathlib.Core.Path.{◌≡◌}
 use lib.ListN.{length}
-use borrow.Author.Rules.{rules}
 use Rattle.fields.specs.Words.{field_count}
 use Rattle.rules.specs.Words.{rule_count}
 use Rattle.builder.proofs.Sides.{SidesFilled}

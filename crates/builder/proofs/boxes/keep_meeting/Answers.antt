@@ -1,6 +1,5 @@
 -- `builder::boxes::keep_meeting` meets its contract. The invariant: what is stored, and what will be of the numbers
 -- from here on, are all whose boxes meet the bounds. Assumes nothing.
-use Prim.Native.Nat.{◌-◌}
 use native.Mathlib.Omega.{arith}
 use mathlib.Core.Path.{sym, ◌∙◌}
 use Rattle.facts.proofs.Steps.{drop_step, drop_end}
@@ -20,7 +19,7 @@ loop-i-preserved c = let above = c.args.above.now in
     let step = drop_step above c.loop-i.i (omega arith) in
     let said = sym (rw c.wide.ensures at c.box_meets.ensures) in
     elim c.if-box_meets.branch [
-      then-box_meets w ↦ (
+      | then-box_meets w ↦ (
         omega arith,
         omega (arith, w.n-is),
         rw (w.out-is, w.n-is) (filled_in c.loop-i.invariant.2 step (said ∙ w.if-box_meets.true) w.store.ensures),

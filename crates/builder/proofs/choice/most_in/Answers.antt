@@ -1,6 +1,5 @@
 -- `builder::choice::most_in` meets its contract. The invariant: what is held has the most values of the fields before
 -- this one, and the lent words are as many as before. Assumes nothing.
-use Prim.Native.Nat.{◌-◌}
 use native.Mathlib.Omega.{arith}
 use mathlib.Core.Path.{◌≡◌, refl, ◌∙◌}
 use Rattle.fields.specs.Words.{field_count}
@@ -25,11 +24,11 @@ values_of-next-requires c = let known = c.requires in
 
 pub loop-f-preserved : goal.loop-f-preserved
 loop-f-preserved c = let sizes = c.values_of-next.auto in (
-      omega arith,
-      sizes.values ∙ c.loop-f.invariant.1,
-      sizes.spare ∙ c.loop-f.invariant.2,
-      rw c.more_of-most.ensures (most_step c.loop-f.invariant.3 c.values_of-next.ensures),
-    )
+  omega arith,
+  sizes.values ∙ c.loop-f.invariant.1,
+  sizes.spare ∙ c.loop-f.invariant.2,
+  rw c.more_of-most.ensures (most_step c.loop-f.invariant.3 c.values_of-next.ensures),
+)
 
 pub shape_of-values : goal.shape_of-values
 shape_of-values c = c.loop-f.invariant.1 ∙ c.values_of-most.auto.values

@@ -1,6 +1,5 @@
 -- `builder::choice::store_ends` meets its contract. The invariant: the ends of the boxes before this one are stored,
 -- two at most for each, and those of the others are left. Assumes nothing.
-use Prim.Native.Nat.{◌-◌}
 use native.Mathlib.Omega.{arith}
 use Rattle.fields.specs.Cuts.{divides}
 use Rattle.builder.specs.ChoiceSteps.{ends_of}

@@ -39,7 +39,7 @@ sorted-few c =
     let kept = stored_few known.0 _ stored known.2 in
     let size = stored_size known.0 _ stored known.2 in
     let lent =
-        length-take-le c.store_ends-n.result c.store_ends-n.new.values (omega (arith, kept, size, known.2)) in
+    length-take-le c.store_ends-n.result c.store_ends-n.new.values (omega (arith, kept, size, known.2)) in
     omega (arith, c.sort_once-count.ensures.within, c.sort_once-count.auto.words, lent, kept)
 
 pub slice_bounds-sort_once-end : goal.slice_bounds-sort_once-end

@@ -5,7 +5,6 @@ use native.Mathlib.Omega.{arith}
 use mathlib.Core.Path.{sym}
 use lib.ListN.{length}
 use lib.Seq.{length-take-le}
-use Rattle.trees.specs.Words.{most_nodes, most_pool}
 use Rattle.builder.proofs.PartAnswers.{part_refused}
 use Rattle.builder.proofs.PartsGrown.{bud_grown}
 use Rattle.builder.proofs.Seeing.{SeenCut, seen_bud, seen_short, seen_leaf, seen_cut, leaf_grows}
@@ -45,7 +44,7 @@ pub store_cut-requires : goal.store_cut-requires
 store_cut-requires t c =
     let s = cut_seen (goal.at.store_cut-requires t c).In-Cut in
     let after =
-        after_left_lem c.requires s c.left_part.ensures c.left_spot.ensures c.grow.ensures c.in-Part.is in
+    after_left_lem c.requires s c.left_part.ensures c.left_spot.ensures c.grow.ensures c.in-Part.is in
     (seen_node c.requires s, seen_field c.requires s, child_few _ _ c.right_child.ensures after.0)
 
 pub slice_bounds-grow-end-in-Part : goal.slice_bounds-grow-end-in-Part

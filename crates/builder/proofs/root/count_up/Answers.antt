@@ -1,5 +1,4 @@
 -- `builder::root::count_up` meets its contract. The invariant: the words before i are counted up. Assumes nothing.
-use Prim.Native.Nat.{◌-◌}
 use native.Mathlib.Omega.{arith}
 use mathlib.Core.Path.{refl}
 use lib.ListN.{length-set}

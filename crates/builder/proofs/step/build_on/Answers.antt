@@ -4,7 +4,6 @@ use mathlib.Core.Path.{◌≡◌, sym, ◌∙◌}
 use Rattle.refusals.specs.declared.Verdict.TheVariants.{Fine}
 use Rattle.tree_check.specs.PartCheck.{so_far_verdict}
 use Rattle.builder.proofs.BuildAnswers.{step_refuses, part_good, part_few, on_built}
-use borrow.Author.Rules.{rules}
 use Rattle.builder.proofs.step.build_on.Goals as goal
 use Rattle.builder.proofs.step.build_on.Goals.{In-Fine}
 

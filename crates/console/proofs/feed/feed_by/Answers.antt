@@ -1,6 +1,5 @@
 -- `console::feed::feed_by` meets its contract: at each turn the lines before it are taken and replied to.
 -- Assumes nothing.
-use Prim.Native.Nat.{◌-◌}
 use native.Mathlib.Omega.{arith}
 use Rattle.console.proofs.Feeding.{reached_first, reached_length, reached_last}
 use Rattle.console.proofs.Passing.{none_of_plain, line_ends}
@@ -52,8 +51,8 @@ returns-in-Refused c =
     let here = c.loop-taken.invariant in
     let ends = line_ends _ _ c.loop-taken-test.true c.line_end-end.ensures in
     let size =
-        line_short_length _ _ _ _ here c.loop-taken-test.true c.line_end-end.ensures
-        c.with_bytes-line.ensures c.if-end-piece.false c.reply_at.ensures c.in-Refused.is in
+    line_short_length _ _ _ _ here c.loop-taken-test.true c.line_end-end.ensures
+    c.with_bytes-line.ensures c.if-end-piece.false c.reply_at.ensures c.in-Refused.is in
     record {
       fed = line_short _ _ _ _ here c.loop-taken-test.true c.line_end-end.ensures c.with_bytes-line.ensures
           c.if-end-piece.false c.reply_at.ensures c.in-Refused.is;

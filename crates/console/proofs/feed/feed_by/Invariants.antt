@@ -2,7 +2,6 @@
 -- Assumes nothing.
 use Prim.Native.Nat.{◌-◌}
 use lib.ListN.{length}
-use borrow.Author.Rules.{rules}
 use Rattle.console.specs.Judged.{answer_asked}
 use Rattle.console.proofs.Feeding.{Reached}
 use Rattle.console.proofs.feed.feed_by.Given as goal

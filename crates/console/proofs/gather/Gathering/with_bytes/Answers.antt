@@ -1,6 +1,5 @@
 -- `console::gather::Gathering::with_bytes` meets its contract: at each turn the bytes before it have joined the line.
 -- Assumes nothing.
-use Prim.Native.Nat.{◌-◌}
 use Rattle.console.proofs.Joining.{joining_first, joining_step, joining_over, joining_last}
 use Rattle.console.proofs.gather.Gathering.with_bytes.Goals as goal
 

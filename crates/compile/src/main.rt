@@ -18,6 +18,7 @@ ghost use Rattle.system.specs.Runs.{ByFile, CompileRan};
 ghost use Rattle.compile.specs.Asks.{Due};
 
 use ledger::arguments::argument_count;
+use ledger::handle::Handle;
 use policy::compiled::compile_text;
 use policy::file::MOST_FILE;
 use policy::list::{Listed, take_list};
@@ -38,72 +39,72 @@ pub(crate) enum Asks {
 }
 
 // The ledger is begun, and goes through the whole run.
-fn main() {
+fn main(rt: HostRuntime) {
     let mut ledger = 0u64;
-    run(&mut ledger);
+    run(&mut ledger, Handle::new(rt));
 }
 
 // No argument asks for the whole; a number of nodes for a step from nothing; with a file besides, for one from the part
 // in it. Nothing is done for wrong arguments.
-fn run(ledger: &mut u64) -> bool
+fn run(ledger: &mut u64, handle: Handle) -> bool
     ensures { Enters (CompileRan result) ledger.old ledger.new }
 {
-    let count = argument_count(ledger);
+    let count = argument_count(ledger, handle);
     if count < 2 {
-        return compile_list(ledger, Asks::Whole);
+        return compile_list(ledger, handle, Asks::Whole);
     }
     if 3 < count {
         return true;
     }
-    match number_told(ledger) {
+    match number_told(ledger, handle) {
         Told::Wrong => true,
         Told::Number(n) => {
             let most = n as usize;
             if count == 2 {
-                return compile_list(ledger, Asks::First { most });
+                return compile_list(ledger, handle, Asks::First { most });
             }
-            compile_list(ledger, Asks::Next { most })
+            compile_list(ledger, handle, Asks::Next { most })
         }
     }
 }
 
 // The text of the list is read into a buffer, which is cleared for what is written. A refused list ends the program.
-fn compile_list(ledger: &mut u64, asks: Asks) -> bool
+fn compile_list(ledger: &mut u64, handle: Handle, asks: Asks) -> bool
     ensures { Enters (ByFile (Due asks) result) ledger.old ledger.new }
 {
     let mut buffer = [0u8; MOST_FILE];
     let mut rules = [0u32; MOST_RULES * RULE_WORDS];
-    let file = load(ledger, &RULES_FILE, &mut buffer);
+    let file = load(ledger, handle, &RULES_FILE, &mut buffer);
     match take_list(file, &buffer, &mut rules) {
-        Listed::Refused(why) => say_verdict(ledger, Verdict::Refused(why)),
+        Listed::Refused(why) => say_verdict(ledger, handle, Verdict::Refused(why)),
         Listed::Words { words } => {
             buffer = [0u8; MOST_FILE];
-            write_asked(ledger, asks, &rules[..words], &mut buffer)
+            write_asked(ledger, handle, asks, &rules[..words], &mut buffer)
         }
     }
 }
 
 // Writes what is asked for of the list.
-fn write_asked(ledger: &mut u64, asks: Asks, rules: &[u32], out: &mut [u8]) -> bool
+fn write_asked(ledger: &mut u64, handle: Handle, asks: Asks, rules: &[u32], out: &mut [u8]) -> bool
     requires { length out.old ≡ most_file }
     ensures { Enters (Due asks rules.now result) ledger.old ledger.new }
 {
     match asks {
-        Asks::Whole => write_tree(ledger, rules, out),
-        Asks::First { most } => write_first(ledger, rules, most, out),
-        Asks::Next { most } => write_next(ledger, rules, most, out),
+        Asks::Whole => write_tree(ledger, handle, rules, out),
+        Asks::First { most } => write_first(ledger, handle, rules, most, out),
+        Asks::Next { most } => write_next(ledger, handle, rules, most, out),
     }
 }
 
 // Compiles the list, and writes the text of its tree, or why there is none. There is room for every text.
-fn write_tree(ledger: &mut u64, rules: &[u32], out: &mut [u8]) -> bool
+fn write_tree(ledger: &mut u64, handle: Handle, rules: &[u32], out: &mut [u8]) -> bool
     requires { length out.old ≡ most_file }
     ensures { Enters
         (HandedOut (text_or (largest_build rules.now) (built_text rules.now)) result)
         ledger.old ledger.new }
 {
     match compile_text(rules, out) {
-        Written::Refused(why) => say_verdict(ledger, Verdict::Refused(why)),
-        Written::Bytes { bytes } => say(ledger, &out[..bytes]),
+        Written::Refused(why) => say_verdict(ledger, handle, Verdict::Refused(why)),
+        Written::Bytes { bytes } => say(ledger, handle, &out[..bytes]),
     }
 }

@@ -9,6 +9,7 @@ ghost use Rattle.system.specs.Runs.{Anew, NextStep};
 ghost use Rattle.compile.specs.Asks.{PartLoaded};
 
 use ledger::arguments::argument;
+use ledger::handle::Handle;
 use policy::file::File;
 use policy::part::{Begun, goes_on, take_part};
 use policy::step::{on_text, some_text};
@@ -22,60 +23,89 @@ use trees::words::{MOST_NODES, MOST_POOL, NODE_WORDS};
 const MOST_PATH: usize = 4095;
 
 // Takes a step from nothing, and writes its text, or why there is none.
-pub(crate) fn write_first(ledger: &mut u64, rules: &[u32], most: usize, out: &mut [u8]) -> bool
+pub(crate) fn write_first(
+    ledger: &mut u64,
+    handle: Handle,
+    rules: &[u32],
+    most: usize,
+    out: &mut [u8],
+) -> bool
     requires { length out.old ≡ most_file }
     ensures { Enters (HandedOut (first_step rules.now most) result) ledger.old
         ledger.new }
 {
     match some_text(rules, most, out) {
-        Written::Refused(why) => say_verdict(ledger, Verdict::Refused(why)),
-        Written::Bytes { bytes } => say(ledger, &out[..bytes]),
+        Written::Refused(why) => say_verdict(ledger, handle, Verdict::Refused(why)),
+        Written::Bytes { bytes } => say(ledger, handle, &out[..bytes]),
     }
 }
 
 // Takes a step from the part in the file that is named; or, where that part is refused, from nothing.
-pub(crate) fn write_next(ledger: &mut u64, rules: &[u32], most: usize, out: &mut [u8]) -> bool
+pub(crate) fn write_next(
+    ledger: &mut u64,
+    handle: Handle,
+    rules: &[u32],
+    most: usize,
+    out: &mut [u8],
+) -> bool
     requires { length out.old ≡ most_file }
     ensures { Enters (NextStep rules.now most result) ledger.old ledger.new }
 {
     let mut nodes = [0u32; MOST_NODES * NODE_WORDS];
     let mut pool = [0u32; MOST_POOL];
-    let file = load_part(ledger, out);
+    let file = load_part(ledger, handle, out);
     let begun = take_part(file, out, &mut nodes, &mut pool);
     match goes_on(begun, rules, &nodes, &pool) {
-        Begun::Refused(why) => begin_anew(ledger, rules, why, most, out),
+        Begun::Refused(why) => begin_anew(ledger, handle, rules, why, most, out),
         Begun::Words {
             rules: count,
             nodes: n,
             pool: p,
-        } => write_on(ledger, rules, count, &nodes[..n], &pool[..p], most, out),
+        } => write_on(
+            ledger,
+            handle,
+            rules,
+            count,
+            &nodes[..n],
+            &pool[..p],
+            most,
+            out,
+        ),
     }
 }
 
 // The file that the second argument names. A path that is too long counts as none.
-fn load_part(ledger: &mut u64, buffer: &mut [u8]) -> File
+fn load_part(ledger: &mut u64, handle: Handle, buffer: &mut [u8]) -> File
     ensures { Enters (PartLoaded (length buffer.new) (text_in result buffer.new))
         ledger.old ledger.new }
 {
     let mut path = [0u8; MOST_PATH];
-    let n = argument(ledger, 2, &mut path);
-    load(ledger, &path[..n], buffer)
+    let n = argument(ledger, handle, 2, &mut path);
+    load(ledger, handle, &path[..n], buffer)
 }
 
 // Says why the part is refused, and takes a step from nothing.
-fn begin_anew(ledger: &mut u64, rules: &[u32], why: Refusal, most: usize, out: &mut [u8]) -> bool
+fn begin_anew(
+    ledger: &mut u64,
+    handle: Handle,
+    rules: &[u32],
+    why: Refusal,
+    most: usize,
+    out: &mut [u8],
+) -> bool
     requires { length out.old ≡ most_file }
     ensures { Enters (Anew rules.now most why result) ledger.old ledger.new }
 {
-    if !say_verdict(ledger, Verdict::Refused(why)) {
+    if !say_verdict(ledger, handle, Verdict::Refused(why)) {
         return false;
     }
-    write_first(ledger, rules, most, out)
+    write_first(ledger, handle, rules, most, out)
 }
 
 // Takes a step from a part, and writes its text, or why there is none.
 fn write_on(
     ledger: &mut u64,
+    handle: Handle,
     rules: &[u32],
     count: usize,
     part: &[u32],
@@ -90,7 +120,7 @@ fn write_on(
         ledger.old ledger.new }
 {
     match on_text(rules, count, part, kept, most, out) {
-        Written::Refused(why) => say_verdict(ledger, Verdict::Refused(why)),
-        Written::Bytes { bytes } => say(ledger, &out[..bytes]),
+        Written::Refused(why) => say_verdict(ledger, handle, Verdict::Refused(why)),
+        Written::Bytes { bytes } => say(ledger, handle, &out[..bytes]),
     }
 }

@@ -4,6 +4,7 @@ ghost use Rattle.ledger.specs.Ledger.{Enters};
 ghost use Rattle.system.specs.TellsNumber.{number_in, TellsNumber};
 
 use ledger::arguments::argument;
+use ledger::handle::Handle;
 use text::cursor::{Cursor, Step};
 use text::words::{ONE_TAB, TAB};
 
@@ -18,11 +19,11 @@ pub enum Told {
 }
 
 // The number that the first argument says. An argument that is too long counts as none.
-pub fn number_told(ledger: &mut u64) -> Told
+pub fn number_told(ledger: &mut u64, handle: Handle) -> Told
     ensures { Enters (TellsNumber result) ledger.old ledger.new }
 {
     let mut line = [TAB; MOST_LINE];
-    let n = argument(ledger, 1, &mut line[1..]);
+    let n = argument(ledger, handle, 1, &mut line[1..]);
     let end = n + 1;
     number_in(&line[..end])
 }

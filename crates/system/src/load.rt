@@ -1,11 +1,13 @@
 // A file into the buffer: whole, or not at all.
 ghost use Rattle.std.specs.Prelude.{◌≡◌, length};
+ghost use Rattle.ledger.specs.Reads.{descriptor_of};
 ghost use Rattle.ledger.specs.Ledger.{Enters};
 ghost use Rattle.policy.specs.Files.{text_in};
 ghost use Rattle.system.specs.Files.{ReadFits, no_reads, next_reads, last_reads, more_reads, file_of};
 ghost use Rattle.system.specs.Files.{ReadToEnd, ReadPast, FileLoaded};
 
-use ledger::input::{Descriptor, Got, close_file, open_file, read_some};
+use ledger::handle::Handle;
+use ledger::input::{Got, Source, close_file, open_file, read_some};
 use policy::file::File;
 
 // The file with the list of rules, in the folder where a program is started.
@@ -19,43 +21,43 @@ pub struct Reads {
 }
 
 // Reads the file at `path` to its end, and closes it. Its bytes stand in front of the buffer.
-pub fn load(ledger: &mut u64, path: &[u8], buffer: &mut [u8]) -> File
+pub fn load(ledger: &mut u64, handle: Handle, path: &[u8], buffer: &mut [u8]) -> File
     ensures { Enters
         (FileLoaded (length buffer.new) path.now (text_in result buffer.new))
         ledger.old ledger.new }
 {
-    let fd = open_file(ledger, path);
-    if !fd.is_open() {
+    let from = open_file(ledger, handle, path);
+    if !from.descriptor().is_open() {
         return File::NotRead;
     }
-    let reads = read_on(ledger, fd, buffer);
-    close_file(ledger, fd);
+    let reads = read_on(ledger, &from, buffer);
+    close_file(ledger, from);
     reads.file()
 }
 
 // Reads until a read gives no more bytes, or the buffer is full. A short read is not the end; and of a full buffer one
 // more read says whether anything follows.
-fn read_on(ledger: &mut u64, fd: Descriptor, buffer: &mut [u8]) -> Reads
-    ensures { Enters (ReadToEnd fd (length buffer.new) (text_in (file_of result) buffer.new))
+fn read_on(ledger: &mut u64, from: &Source, buffer: &mut [u8]) -> Reads
+    ensures { Enters (ReadToEnd (descriptor_of from.now) (length buffer.new) (text_in (file_of result) buffer.new))
         ledger.old ledger.new }
 {
     let mut reads = Reads::start();
     while reads.done < buffer.len() && reads.more() {
         let done = reads.done;
-        reads = reads.next(read_some(ledger, fd, &mut buffer[done..]));
+        reads = reads.next(read_some(ledger, from, &mut buffer[done..]));
     }
     if reads.more() {
-        reads = reads.past(read_next(ledger, fd));
+        reads = reads.past(read_next(ledger, from));
     }
     reads
 }
 
 // One read of a byte that may follow.
-fn read_next(ledger: &mut u64, fd: Descriptor) -> Got
-    ensures { Enters (ReadPast fd result) ledger.old ledger.new }
+fn read_next(ledger: &mut u64, from: &Source) -> Got
+    ensures { Enters (ReadPast (descriptor_of from.now) result) ledger.old ledger.new }
 {
     let mut next = [0u8; 1];
-    read_some(ledger, fd, &mut next)
+    read_some(ledger, from, &mut next)
 }
 
 impl Reads {

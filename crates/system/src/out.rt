@@ -6,6 +6,7 @@ ghost use Rattle.system.specs.Handing.{HandedOut, FrontWithin, FrontHanded};
 
 use console::feed::last_reply;
 use console::gather::Gathering;
+use ledger::handle::Handle;
 use ledger::output::write_out;
 use policy::line::verdict_line;
 use refusals::Verdict;
@@ -15,40 +16,40 @@ use text::put::Written;
 pub const MOST_REFUSED: usize = 71;
 
 // Writes bytes, and answers whether all of them were written. The system is not asked where there are none.
-pub fn say(ledger: &mut u64, bytes: &[u8]) -> bool
+pub fn say(ledger: &mut u64, handle: Handle, bytes: &[u8]) -> bool
     ensures { Enters (HandedOut bytes.now result) ledger.old ledger.new }
 {
     if bytes.len() == 0 {
         return true;
     }
-    write_out(ledger, bytes)
+    write_out(ledger, handle, bytes)
 }
 
 // Writes the line of a refusal, or nothing where the verdict is fine; and answers whether it was written.
-pub fn say_verdict(ledger: &mut u64, verdict: Verdict) -> bool
+pub fn say_verdict(ledger: &mut u64, handle: Handle, verdict: Verdict) -> bool
     ensures { Enters (HandedOut (verdict_line verdict) result) ledger.old ledger.new }
 {
     let mut out = [0u8; MOST_REFUSED];
     let said = verdict_line(verdict, &mut out);
-    say_written(ledger, said, &out)
+    say_written(ledger, handle, said, &out)
 }
 
 // Writes what is due at the end of the input: the reply to a last part without newline.
-pub(crate) fn say_last(ledger: &mut u64, gathering: Gathering) -> bool
+pub(crate) fn say_last(ledger: &mut u64, handle: Handle, gathering: Gathering) -> bool
     ensures { Enters (HandedOut (last_reply gathering) result) ledger.old ledger.new }
 {
     let mut out = [0u8; MOST_REFUSED];
     let said = last_reply(gathering, &mut out);
-    say_written(ledger, said, &out)
+    say_written(ledger, handle, said, &out)
 }
 
 // Writes what stands in front of `out`; nothing where it found no room there.
-fn say_written(ledger: &mut u64, said: Written, out: &[u8]) -> bool
+fn say_written(ledger: &mut u64, handle: Handle, said: Written, out: &[u8]) -> bool
     requires { FrontWithin said out.now }
     ensures { Enters (FrontHanded said out.now result) ledger.old ledger.new }
 {
     match said {
         Written::Refused(_) => false,
-        Written::Bytes { bytes } => say(ledger, &out[..bytes]),
+        Written::Bytes { bytes } => say(ledger, handle, &out[..bytes]),
     }
 }

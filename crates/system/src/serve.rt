@@ -12,6 +12,7 @@ ghost use Rattle.system.specs.Turns.{PieceAnswered, GotAnswered, SomeAnswered, I
 use crate::out::{say, say_last};
 use console::feed::{Fed, feed, feed_why};
 use console::gather::Gathering;
+use ledger::handle::Handle;
 use ledger::input::{Got, read_some, standard_input};
 
 // The bytes that are read at once at most, and the bytes of replies that are written at once at most.
@@ -33,21 +34,36 @@ pub(crate) struct Turn {
 }
 
 // Answers which rules match, by the tree if it was accepted; and answers whether all that was due was written.
-pub fn serve(ledger: &mut u64, rules: &[u32], nodes: &[u32], pool: &[u32], accepted: bool) -> bool
+pub fn serve(
+    ledger: &mut u64,
+    handle: Handle,
+    rules: &[u32],
+    nodes: &[u32],
+    pool: &[u32],
+    accepted: bool,
+) -> bool
     ensures { Enters
         (InputAnswered (answer_to accepted rules.now nodes.now pool.now) result)
         ledger.old ledger.new }
 {
-    answer_lines(ledger, rules, nodes, pool, Asked::Matches { accepted })
+    answer_lines(
+        ledger,
+        handle,
+        rules,
+        nodes,
+        pool,
+        Asked::Matches { accepted },
+    )
 }
 
 // Answers why rule `rule` misses; and answers whether all that was due was written.
-pub fn serve_why(ledger: &mut u64, rules: &[u32], rule: usize) -> bool
+pub fn serve_why(ledger: &mut u64, handle: Handle, rules: &[u32], rule: usize) -> bool
     ensures { Enters (InputAnswered (miss_answer rules.now rule) result) ledger.old
         ledger.new }
 {
     answer_lines(
         ledger,
+        handle,
         rules,
         &rules[..0],
         &rules[..0],
@@ -57,7 +73,14 @@ pub fn serve_why(ledger: &mut u64, rules: &[u32], rule: usize) -> bool
 
 // Answers standard input to its end, and then the part that has no newline. Output that cannot be written stops it.
 // Nothing proves that input ends, so the reads are counted down, from a number that no run uses up.
-fn answer_lines(ledger: &mut u64, rules: &[u32], nodes: &[u32], pool: &[u32], asked: Asked) -> bool
+fn answer_lines(
+    ledger: &mut u64,
+    handle: Handle,
+    rules: &[u32],
+    nodes: &[u32],
+    pool: &[u32],
+    asked: Asked,
+) -> bool
     ensures { Enters
         (InputAnswered (answer_for asked rules.now nodes.now pool.now) result)
         ledger.old ledger.new }
@@ -68,7 +91,7 @@ fn answer_lines(ledger: &mut u64, rules: &[u32], nodes: &[u32], pool: &[u32], as
     let mut reads = u64::MAX;
     while reads > 0 && turn.more {
         turn = answer_some(
-            ledger, rules, nodes, pool, asked, turn, &mut piece, &mut out,
+            ledger, handle, rules, nodes, pool, asked, turn, &mut piece, &mut out,
         );
         reads -= 1;
     }
@@ -76,12 +99,13 @@ fn answer_lines(ledger: &mut u64, rules: &[u32], nodes: &[u32], pool: &[u32], as
     if !turn.written {
         return false;
     }
-    say_last(ledger, last)
+    say_last(ledger, handle, last)
 }
 
 // Reads once, and answers what came.
 fn answer_some(
     ledger: &mut u64,
+    handle: Handle,
     rules: &[u32],
     nodes: &[u32],
     pool: &[u32],
@@ -96,13 +120,17 @@ fn answer_some(
         (SomeAnswered (answer_for asked rules.now nodes.now pool.now)
         turn.gathering result) ledger.old ledger.new }
 {
-    let got = read_some(ledger, standard_input(), piece);
-    answer_got(ledger, rules, nodes, pool, asked, turn, got, piece, out)
+    let input = standard_input(handle);
+    let got = read_some(ledger, &input, piece);
+    answer_got(
+        ledger, handle, rules, nodes, pool, asked, turn, got, piece, out,
+    )
 }
 
 // Answers the lines that end in what a read gave. A read that fails ends the input, as its end does.
 fn answer_got(
     ledger: &mut u64,
+    handle: Handle,
     rules: &[u32],
     nodes: &[u32],
     pool: &[u32],
@@ -124,6 +152,7 @@ fn answer_got(
         Got::Ended => input_ended(from),
         Got::Bytes { count } => answer_piece(
             ledger,
+            handle,
             rules,
             nodes,
             pool,
@@ -139,6 +168,7 @@ fn answer_got(
 // none is not written; there is room for the longest reply of a good list.
 fn answer_piece(
     ledger: &mut u64,
+    handle: Handle,
     rules: &[u32],
     nodes: &[u32],
     pool: &[u32],
@@ -160,7 +190,7 @@ fn answer_piece(
             return output_failed(from);
         }
         let filled = fed.filled;
-        if !say(ledger, &out[..filled]) {
+        if !say(ledger, handle, &out[..filled]) {
             return output_failed(from);
         }
         gathering = fed.gathering;

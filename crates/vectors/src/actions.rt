@@ -2,29 +2,30 @@
 use crate::calls::{check_list, check_tree, scan_list, search_list, search_tree};
 use crate::files::{read_list, write_actions, write_list};
 use crate::policy::{NODES, POOL, RULES, header, web};
-use libc::STDOUT_FILENO;
+use crate::say::bytes;
+use std::rt::Stdout;
 
 // The list and its tree.
-pub(crate) fn checks() {
+pub(crate) fn checks(to: Stdout) {
     let list = with_actions();
-    check_list(b"actions", &list);
-    check_tree(b"actions", &list, &NODES, &POOL);
+    check_list(to, b"actions", &list);
+    check_tree(to, b"actions", &list, &NODES, &POOL);
 }
 
 // Each rule is the first match of a header, and of two rules none is.
-pub(crate) fn searches() {
-    search(b"actions, rule 0 first", &web(0x0a010203));
-    search(b"actions, rule 1 first", &header(0x0a010203, 443, 6));
-    search(b"actions, rule 2 first", &web(0x0b000000));
+pub(crate) fn searches(to: Stdout) {
+    search(to, b"actions, rule 0 first", &web(0x0a010203));
+    search(to, b"actions, rule 1 first", &header(0x0a010203, 443, 6));
+    search(to, b"actions, rule 2 first", &web(0x0b000000));
     let list = with_actions();
-    search_list(b"actions, no rule", &list[0..22], &web(0x0b000000));
+    search_list(to, b"actions, no rule", &list[0..22], &web(0x0b000000));
 }
 
-fn search(example: &[u8], words: &[u32]) {
+fn search(to: Stdout, example: &[u8], words: &[u32]) {
     let list = with_actions();
-    search_list(example, &list, words);
-    scan_list(example, &list, words);
-    search_tree(example, &list, &NODES, &POOL, words);
+    search_list(to, example, &list, words);
+    scan_list(to, example, &list, words);
+    search_tree(to, example, &list, &NODES, &POOL, words);
 }
 
 fn with_actions() -> [u32; 33] {
@@ -36,14 +37,15 @@ fn with_actions() -> [u32; 33] {
 }
 
 // The rule that matches everything, with an action at each side of the limit, and with any word.
-pub(crate) fn one_rule() {
-    check_list(b"action 255", &everything(255));
-    check_list(b"action 256", &everything(256));
+pub(crate) fn one_rule(to: Stdout) {
+    check_list(to, b"action 255", &everything(255));
+    check_list(to, b"action 256", &everything(256));
     let words = web(0x0b000000);
     let list = everything(0xffffffff);
-    scan_list(b"an action of 32 bits", &list, &words);
-    search_tree(b"an action of 32 bits", &list, &[5, 0, 1], &[0], &words);
+    scan_list(to, b"an action of 32 bits", &list, &words);
+    search_tree(to, b"an action of 32 bits", &list, &[5, 0, 1], &[0], &words);
     check_list(
+        to,
         b"twins but for the action",
         &[
             0, 0, 0, 0, 0, 65535, 0, 65535, 0, 255, 1, 0, 0, 0, 0, 0, 65535, 0, 65535, 0, 255, 2,
@@ -56,39 +58,44 @@ fn everything(action: u32) -> [u32; 11] {
 }
 
 // The file with actions, written with exact room, and read.
-pub(crate) fn rule_files() {
+pub(crate) fn rule_files(to: Stdout) {
     let mut text = [0u8; 163];
-    write_actions(b"the file with actions", &with_actions(), &mut text);
-    io::write_all(STDOUT_FILENO, &text);
+    write_actions(to, b"the file with actions", &with_actions(), &mut text);
+    bytes(to, &text);
     let mut list = [0u32; 33];
-    read_list(b"the file with actions", &text, &mut list);
+    read_list(to, b"the file with actions", &text, &mut list);
     search_list(
+        to,
         b"the list with actions that was read",
         &list,
         &web(0x0a010203),
     );
-    short_files(text);
-    wrong_files(text);
+    short_files(to, text);
+    wrong_files(to, text);
 }
 
 // The file with too little room, and without its last newline.
-fn short_files(text: [u8; 163]) {
+fn short_files(to: Stdout, text: [u8; 163]) {
     write_actions(
+        to,
         b"the file with actions, room for one byte less",
         &with_actions(),
         &mut [0; 162],
     );
     read_list(
+        to,
         b"the file with actions, room for one word less",
         &text,
         &mut [0; 32],
     );
     read_list(
+        to,
         b"the file with actions, without the last newline",
         &text[0..162],
         &mut [0; 33],
     );
     write_list(
+        to,
         b"actions in a file without them",
         &with_actions(),
         &mut [0; 163],
@@ -96,19 +103,21 @@ fn short_files(text: [u8; 163]) {
 }
 
 // An action of 256 at byte 102, a line with an action where the first word says that there is none, and no rules.
-fn wrong_files(mut text: [u8; 163]) {
+fn wrong_files(to: Stdout, mut text: [u8; 163]) {
     text[104] = b'6';
     read_list(
+        to,
         b"the file with actions, an action of 256",
         &text,
         &mut [0; 33],
     );
     read_list(
+        to,
         b"an action in a file without them",
         b"rules\t1\nrule\t0\t0.0.0.0/0\t0.0.0.0/0\t0\t65535\t0\t65535\t0\t255\t1\nend\t2\n",
         &mut [0; 11],
     );
     let mut empty = [0u8; 12];
-    write_actions(b"no rules, with actions", &[], &mut empty);
-    read_list(b"no rules, with actions", &empty, &mut []);
+    write_actions(to, b"no rules, with actions", &[], &mut empty);
+    read_list(to, b"no rules, with actions", &empty, &mut []);
 }

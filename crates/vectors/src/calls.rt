@@ -3,6 +3,7 @@ use crate::say::{begin, end, refused, value, word, words};
 use rules::check::{Checked, rule_check};
 use rules::line::{First, Listed, line_all, line_first, scan_all, scan_first};
 use rules::miss::{Missed, rule_misses};
+use std::rt::Stdout;
 use tree_check::check::{TreeAnswer, tree_check};
 use trees::search::{TreeFirst, TreeListed, tree_all, tree_first};
 
@@ -10,104 +11,111 @@ use trees::search::{TreeFirst, TreeListed, tree_all, tree_first};
 pub const AS_FOUND: u32 = 7;
 
 // The number of rules.
-pub(crate) fn check_list(example: &[u8], list: &[u32]) {
-    begin(example, b"rule_check");
+pub(crate) fn check_list(to: Stdout, example: &[u8], list: &[u32]) {
+    begin(to, example, b"rule_check");
     match rule_check(list) {
-        Checked::Refused(why) => refused(why),
+        Checked::Refused(why) => refused(to, why),
         Checked::Good { rules } => {
-            value(0);
-            value(rules as u64);
+            value(to, 0);
+            value(to, rules as u64);
         }
     }
-    end();
+    end(to);
 }
 
 // The most cuts above a leaf, and the longest leaf.
-pub(crate) fn check_tree(example: &[u8], list: &[u32], nodes: &[u32], pool: &[u32]) {
-    begin(example, b"tree_check");
+pub(crate) fn check_tree(to: Stdout, example: &[u8], list: &[u32], nodes: &[u32], pool: &[u32]) {
+    begin(to, example, b"tree_check");
     match tree_check(list, nodes, pool) {
-        TreeAnswer::Refused(why) => refused(why),
+        TreeAnswer::Refused(why) => refused(to, why),
         TreeAnswer::Accepted { cuts, longest } => {
-            value(0);
-            value(cuts as u64);
-            value(longest as u64);
+            value(to, 0);
+            value(to, cuts as u64);
+            value(to, longest as u64);
         }
     }
-    end();
+    end(to);
 }
 
 // Both line searches, with room for three numbers.
-pub(crate) fn search_list(example: &[u8], list: &[u32], header: &[u32]) {
+pub(crate) fn search_list(to: Stdout, example: &[u8], list: &[u32], header: &[u32]) {
     let mut out = [AS_FOUND; 3];
     let said = line_all(list, header, &mut out);
-    say_listed(example, b"line_all", said, out);
-    say_first(example, b"line_first", line_first(list, header));
+    say_listed(to, example, b"line_all", said, out);
+    say_first(to, example, b"line_first", line_first(list, header));
 }
 
 // Both scans, with room for three numbers.
-pub(crate) fn scan_list(example: &[u8], list: &[u32], header: &[u32]) {
+pub(crate) fn scan_list(to: Stdout, example: &[u8], list: &[u32], header: &[u32]) {
     let mut out = [AS_FOUND; 3];
     let said = scan_all(list, header, &mut out);
-    say_listed(example, b"scan_all", said, out);
-    say_first(example, b"scan_first", scan_first(list, header));
+    say_listed(to, example, b"scan_all", said, out);
+    say_first(to, example, b"scan_first", scan_first(list, header));
 }
 
 // The lowest field of a rule that disagrees, or 5 where the rule matches.
-pub(crate) fn compare_rule(example: &[u8], list: &[u32], header: &[u32], number: usize) {
-    begin(example, b"rule_misses");
+pub(crate) fn compare_rule(
+    to: Stdout,
+    example: &[u8],
+    list: &[u32],
+    header: &[u32],
+    number: usize,
+) {
+    begin(to, example, b"rule_misses");
     match rule_misses(list, header, number) {
-        Missed::Refused(why) => refused(why),
+        Missed::Refused(why) => refused(to, why),
         Missed::At { field } => {
-            value(0);
-            value(field as u64);
+            value(to, 0);
+            value(to, field as u64);
         }
     }
-    end();
+    end(to);
 }
 
 // The first number and its action, or none.
-fn say_first(example: &[u8], call: &[u8], said: First) {
-    begin(example, call);
+fn say_first(to: Stdout, example: &[u8], call: &[u8], said: First) {
+    begin(to, example, call);
     match said {
-        First::Refused(why) => refused(why),
+        First::Refused(why) => refused(to, why),
         First::Rule { number, action } => {
-            value(0);
-            word(b"rule");
-            value(number as u64);
-            say_action(action);
+            value(to, 0);
+            word(to, b"rule");
+            value(to, number as u64);
+            say_action(to, action);
         }
         First::NoRule => {
-            value(0);
-            word(b"none");
+            value(to, 0);
+            word(to, b"none");
         }
     }
-    end();
+    end(to);
 }
 
 // The action of a first match, where it is not 0.
-fn say_action(action: u32) {
+fn say_action(to: Stdout, action: u32) {
     if action != 0 {
-        word(b"action");
-        value(action as u64);
+        word(to, b"action");
+        value(to, action as u64);
     }
 }
 
 // The numbers that a line search or a scan found, of which there are so many.
-pub(crate) fn say_listed(example: &[u8], call: &[u8], said: Listed, out: [u32; 3]) {
-    begin(example, call);
+pub(crate) fn say_listed(to: Stdout, example: &[u8], call: &[u8], said: Listed, out: [u32; 3]) {
+    begin(to, example, call);
     match said {
-        Listed::Refused(why) => refused(why),
+        Listed::Refused(why) => refused(to, why),
         Listed::Found { count } => {
-            value(0);
-            value(count as u64);
+            value(to, 0);
+            value(to, count as u64);
         }
     }
-    words(out);
-    end();
+    words(to, out);
+    end(to);
 }
 
 // Both tree searches, with room for three numbers.
 pub(crate) fn search_tree(
+    to: Stdout,
     example: &[u8],
     list: &[u32],
     nodes: &[u32],
@@ -116,54 +124,54 @@ pub(crate) fn search_tree(
 ) {
     let mut out = [AS_FOUND; 3];
     let said = tree_all(list, nodes, pool, header, &mut out);
-    say_tree_listed(example, said, out);
-    say_tree_first(example, tree_first(list, nodes, pool, header));
+    say_tree_listed(to, example, said, out);
+    say_tree_first(to, example, tree_first(list, nodes, pool, header));
 }
 
 // The numbers that a tree search found, of which there are so many; the nodes visited, and the entries compared.
-pub(crate) fn say_tree_listed(example: &[u8], said: TreeListed, out: [u32; 3]) {
-    begin(example, b"tree_all");
+pub(crate) fn say_tree_listed(to: Stdout, example: &[u8], said: TreeListed, out: [u32; 3]) {
+    begin(to, example, b"tree_all");
     match said {
-        TreeListed::Refused(why) => refused(why),
+        TreeListed::Refused(why) => refused(to, why),
         TreeListed::Found {
             count,
             visited,
             compared,
         } => {
-            value(0);
-            value(count as u64);
-            value(visited as u64);
-            value(compared as u64);
+            value(to, 0);
+            value(to, count as u64);
+            value(to, visited as u64);
+            value(to, compared as u64);
         }
     }
-    words(out);
-    end();
+    words(to, out);
+    end(to);
 }
 
 // The first number and its action, or none; the nodes visited, and the entries compared.
-fn say_tree_first(example: &[u8], said: TreeFirst) {
-    begin(example, b"tree_first");
+fn say_tree_first(to: Stdout, example: &[u8], said: TreeFirst) {
+    begin(to, example, b"tree_first");
     match said {
-        TreeFirst::Refused(why) => refused(why),
+        TreeFirst::Refused(why) => refused(to, why),
         TreeFirst::Rule {
             number,
             action,
             visited,
             compared,
         } => {
-            value(0);
-            word(b"rule");
-            value(number as u64);
-            say_action(action);
-            value(visited as u64);
-            value(compared as u64);
+            value(to, 0);
+            word(to, b"rule");
+            value(to, number as u64);
+            say_action(to, action);
+            value(to, visited as u64);
+            value(to, compared as u64);
         }
         TreeFirst::NoRule { visited, compared } => {
-            value(0);
-            word(b"none");
-            value(visited as u64);
-            value(compared as u64);
+            value(to, 0);
+            word(to, b"none");
+            value(to, visited as u64);
+            value(to, compared as u64);
         }
     }
-    end();
+    end(to);
 }

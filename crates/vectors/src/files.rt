@@ -3,73 +3,81 @@ use crate::say::{begin, end, refused, value, word};
 use rule_file::kind::Kind;
 use rule_file::read::{Read as ListRead, rules_read};
 use rule_file::write::{acl_write, rules_write};
+use std::rt::Stdout;
 use text::put::Written;
 use tree_file::read::{Read as TreeRead, tree_read};
 use tree_file::write::tree_write;
 
 // The number of rules of a text, and `acl` where it has actions.
-pub(crate) fn read_list(example: &[u8], text: &[u8], list: &mut [u32]) {
-    begin(example, b"rules_read");
+pub(crate) fn read_list(to: Stdout, example: &[u8], text: &[u8], list: &mut [u32]) {
+    begin(to, example, b"rules_read");
     match rules_read(text, list) {
-        ListRead::Refused(why) => refused(why),
+        ListRead::Refused(why) => refused(to, why),
         ListRead::Rules { rules, kind } => {
-            value(0);
-            value(rules as u64);
+            value(to, 0);
+            value(to, rules as u64);
             match kind {
                 Kind::Rules => {}
-                Kind::Acl => word(b"acl"),
+                Kind::Acl => word(to, b"acl"),
             }
         }
     }
-    end();
+    end(to);
 }
 
 // The bytes of a list's text without actions.
-pub(crate) fn write_list(example: &[u8], list: &[u32], text: &mut [u8]) {
-    begin(example, b"rules_write");
-    say_written(rules_write(list, text));
+pub(crate) fn write_list(to: Stdout, example: &[u8], list: &[u32], text: &mut [u8]) {
+    begin(to, example, b"rules_write");
+    say_written(to, rules_write(list, text));
 }
 
 // The bytes of its text with them.
-pub(crate) fn write_actions(example: &[u8], list: &[u32], text: &mut [u8]) {
-    begin(example, b"acl_write");
-    say_written(acl_write(list, text));
+pub(crate) fn write_actions(to: Stdout, example: &[u8], list: &[u32], text: &mut [u8]) {
+    begin(to, example, b"acl_write");
+    say_written(to, acl_write(list, text));
 }
 
 // The numbers of rules, nodes and pool words of a text.
-pub(crate) fn read_nodes(example: &[u8], text: &[u8], nodes: &mut [u32], pool: &mut [u32]) {
-    begin(example, b"tree_read");
+pub(crate) fn read_nodes(
+    to: Stdout,
+    example: &[u8],
+    text: &[u8],
+    nodes: &mut [u32],
+    pool: &mut [u32],
+) {
+    begin(to, example, b"tree_read");
     match tree_read(text, nodes, pool) {
-        TreeRead::Refused(why) => refused(why),
+        TreeRead::Refused(why) => refused(to, why),
         TreeRead::Tree { rules, nodes, pool } => {
-            value(0);
-            value(rules as u64);
-            value(nodes as u64);
-            value(pool as u64);
+            value(to, 0);
+            value(to, rules as u64);
+            value(to, nodes as u64);
+            value(to, pool as u64);
         }
     }
-    end();
+    end(to);
 }
 
 // The bytes of the text of a tree for `rules` rules.
 pub(crate) fn write_nodes(
+    to: Stdout,
     example: &[u8],
     rules: usize,
     nodes: &[u32],
     pool: &[u32],
     text: &mut [u8],
 ) {
-    begin(example, b"tree_write");
-    say_written(tree_write(rules, nodes, pool, text));
+    begin(to, example, b"tree_write");
+    say_written(to, tree_write(rules, nodes, pool, text));
 }
 
-fn say_written(said: Written) {
+fn say_written(to: Stdout, said: Written) {
     match said {
-        Written::Refused(why) => refused(why),
+        Written::Refused(why) => refused(to, why),
         Written::Bytes { bytes } => {
-            value(0);
-            value(bytes as u64);
+            value(to, 0);
+            value(to, bytes as u64);
         }
     }
-    end();
+    end(to);
 }

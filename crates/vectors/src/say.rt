@@ -1,38 +1,44 @@
 // The parts of a line of the output.
-use libc::STDOUT_FILENO;
 use refusals::{Refusal, extra_of, number_of, place_of};
+use std::io::Print;
+use std::rt::Stdout;
+
+// Bytes as they are. It is not looked at whether they were written.
+pub(crate) fn bytes(to: Stdout, text: &[u8]) {
+    to.write_all(text).is_ok();
+}
 
 // The example and the call.
-pub(crate) fn begin(example: &[u8], call: &[u8]) {
-    io::write_all(STDOUT_FILENO, example);
-    word(call);
+pub(crate) fn begin(to: Stdout, example: &[u8], call: &[u8]) {
+    bytes(to, example);
+    word(to, call);
 }
 
 // A word of its own.
-pub(crate) fn word(text: &[u8]) {
-    io::write_all(STDOUT_FILENO, b"\t");
-    io::write_all(STDOUT_FILENO, text);
+pub(crate) fn word(to: Stdout, text: &[u8]) {
+    bytes(to, b"\t");
+    bytes(to, text);
 }
 
 // A number.
-pub(crate) fn value(n: u64) {
-    io::write_all(STDOUT_FILENO, b"\t");
-    io::print_decimal(STDOUT_FILENO, n);
+pub(crate) fn value(to: Stdout, n: u64) {
+    bytes(to, b"\t");
+    to.print(n).is_ok();
 }
 
 // The number, place and extra of a refusal.
-pub(crate) fn refused(why: Refusal) {
-    value(number_of(why));
-    value(place_of(why));
-    value(extra_of(why));
+pub(crate) fn refused(to: Stdout, why: Refusal) {
+    value(to, number_of(why));
+    value(to, place_of(why));
+    value(to, extra_of(why));
 }
 
 // Lent words after the call.
-pub(crate) fn words(out: [u32; 3]) {
-    word(b":");
-    value(wide(out[0]));
-    value(wide(out[1]));
-    value(wide(out[2]));
+pub(crate) fn words(to: Stdout, out: [u32; 3]) {
+    word(to, b":");
+    value(to, wide(out[0]));
+    value(to, wide(out[1]));
+    value(to, wide(out[2]));
 }
 
 fn wide(n: u32) -> u64 {
@@ -40,6 +46,6 @@ fn wide(n: u32) -> u64 {
 }
 
 // The end of the line.
-pub(crate) fn end() {
-    io::write_all(STDOUT_FILENO, b"\n");
+pub(crate) fn end(to: Stdout) {
+    bytes(to, b"\n");
 }

@@ -10,6 +10,7 @@ ghost use Rattle.system.specs.Turns.{InputAnswered};
 ghost use Rattle.system.specs.Runs.{ByFile, WhyRan};
 
 use ledger::arguments::argument_count;
+use ledger::handle::Handle;
 use policy::file::MOST_FILE;
 use policy::list::{Listed, take_list};
 use refusals::Verdict;
@@ -20,34 +21,34 @@ use system::out::say_verdict;
 use system::serve::serve_why;
 
 // The ledger is begun, and goes through the whole run.
-fn main() {
+fn main(rt: HostRuntime) {
     let mut ledger = 0u64;
-    run(&mut ledger);
+    run(&mut ledger, Handle::new(rt));
 }
 
 // Nothing is done for wrong arguments.
-fn run(ledger: &mut u64) -> bool
+fn run(ledger: &mut u64, handle: Handle) -> bool
     ensures { Enters (WhyRan result) ledger.old ledger.new }
 {
-    if argument_count(ledger) != 2 {
+    if argument_count(ledger, handle) != 2 {
         return true;
     }
-    match number_told(ledger) {
+    match number_told(ledger, handle) {
         Told::Wrong => true,
-        Told::Number(n) => answer(ledger, n as usize),
+        Told::Number(n) => answer(ledger, handle, n as usize),
     }
 }
 
 // The text of the list is read into a buffer. A refused list ends the program.
-fn answer(ledger: &mut u64, rule: usize) -> bool
+fn answer(ledger: &mut u64, handle: Handle, rule: usize) -> bool
     ensures { Enters (ByFile (λ rs. InputAnswered (miss_answer rs rule)) result) ledger.old
         ledger.new }
 {
     let mut buffer = [0u8; MOST_FILE];
     let mut rules = [0u32; MOST_RULES * RULE_WORDS];
-    let file = load(ledger, &RULES_FILE, &mut buffer);
+    let file = load(ledger, handle, &RULES_FILE, &mut buffer);
     match take_list(file, &buffer, &mut rules) {
-        Listed::Refused(why) => say_verdict(ledger, Verdict::Refused(why)),
-        Listed::Words { words } => serve_why(ledger, &rules[..words], rule),
+        Listed::Refused(why) => say_verdict(ledger, handle, Verdict::Refused(why)),
+        Listed::Words { words } => serve_why(ledger, handle, &rules[..words], rule),
     }
 }

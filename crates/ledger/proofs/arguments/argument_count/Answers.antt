@@ -1,0 +1,10 @@
+-- `ledger::arguments::argument_count` meets its contract: it is entered. Assumes nothing.
+use Rattle.std.proofs.Common.{refl}
+use Rattle.ledger.specs.Ledger.{counted, enter_is}
+use Rattle.ledger.proofs.arguments.argument_count.Goals as goal
+
+pub returns-else-is_given : goal.returns-else-is_given
+returns-else-is_given c = enter_is _ (counted _) refl c.one_more.ensures
+
+pub returns-after-loop-count : goal.returns-after-loop-count
+returns-after-loop-count c = enter_is _ (counted _) refl c.one_more.ensures

@@ -1,0 +1,13 @@
+// What the system is asked by. `main` gives its runtime away in it, and no other crate can take that out again.
+use std::rt::HostRuntime;
+
+#[derive(Clone, Copy)]
+pub struct Handle {
+    pub(crate) rt: HostRuntime,
+}
+
+impl Handle {
+    pub fn new(rt: HostRuntime) -> Handle {
+        Handle { rt }
+    }
+}

@@ -1,16 +1,16 @@
 -- Actions: what a good rule's is, and which lists are fine with smaller ones.
-use Prim.Native.Nat.{ℕ, ◌*◌, ◌%◌, ◌≤◌, ◌<◌}
+use Prim.Native.Nat.{ℕ, ◌≤◌, ◌<◌}
 use native.Mathlib.Omega.{arith}
-use mathlib.Core.Bool.{true, false, ◌&&◌}
-use mathlib.Core.Path.{◌≡◌, refl, sym}
+use mathlib.Core.Bool.{true, false}
+use mathlib.Core.Path.{◌≡◌, sym}
 use mathlib.Core.Logic.{◌↔◌}
 use mathlib.Core.List.{List}
-use lib.ListN.{length, get_or-eq_default}
+use lib.ListN.{get_or-eq_default}
 use lib.Dec.{leb}
 use borrow.Author.Tests.{leb-true, le-leb}
 use Rattle.facts.proofs.Bools.{both, join}
 use Rattle.refusals.specs.declared.Verdict.TheVariants.{Fine}
-use Rattle.rules.specs.Words.{rule_words, match_words, rule_count, action_of}
+use Rattle.rules.specs.Words.{rule_count, action_of}
 use Rattle.rules.specs.Good.{fields_good, good_to, list_verdict_to}
 use Rattle.rules.proofs.Lists.{GoodRules, fine_iff_good}
 

@@ -12,7 +12,7 @@ use Rattle.refusals.specs.declared.Refusal.{Refusal}
 use Rattle.refusals.specs.declared.Refusal.TheVariants.{RuleWordsWrong, RuleNotGood, RuleHasTwin}
 use Rattle.refusals.specs.declared.Verdict.{Verdict}
 use Rattle.refusals.specs.declared.Verdict.TheVariants.{Fine, Refused}
-use Rattle.refusals.specs.Order.{◌then◌, in_turn}
+use Rattle.refusals.specs.Order.{in_turn}
 use Rattle.refusals.specs.Table.{number_of}
 use Rattle.refusals.proofs.Order.{holds_fine, fails_refused, fine_iff_holds}
 use Rattle.refusals.proofs.Order.{then_fine, then_refused, then_fine_iff, then_cases}

@@ -3,7 +3,7 @@ use Prim.Native.Nat.{ℕ, ◌≤◌, ◌<◌}
 use native.Mathlib.Nat.{min-eq_left, min-le_left, min-le_right}
 use native.Mathlib.Omega.{arith}
 use mathlib.Core.Bool.{Bool}
-use mathlib.Core.Path.{◌≡◌, refl, sym, ap}
+use mathlib.Core.Path.{◌≡◌, refl}
 use mathlib.Core.List.{List, [], ◌∷◌}
 use lib.ListN.{length}
 use Rattle.facts.specs.Lists.{up_from, keep}
@@ -12,7 +12,6 @@ use Rattle.facts.proofs.Filling.{keep_at_most}
 use Rattle.facts.proofs.Members.{has_first, kept_iff, up_iff}
 use Rattle.refusals.specs.declared.Refusal.{Refusal}
 use Rattle.refusals.specs.declared.Verdict.TheVariants.{Fine, Refused}
-use Rattle.refusals.specs.Paper.{success}
 use Rattle.refusals.proofs.Order.{then_refused, then_fine_iff}
 use Rattle.refusals.proofs.Promises.{fine_by, says_after, writes_refused, writes_after}
 use Rattle.fields.specs.Words.{field_count}

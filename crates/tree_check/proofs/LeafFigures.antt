@@ -8,7 +8,7 @@ use Rattle.facts.proofs.Cases.{WithinOrOver, at_most, over, within_or_over}
 use Rattle.trees.specs.Words.{leaf_mark, field_of}
 use Rattle.tree_check.specs.declared.preorder.Lack.{Lack}
 use Rattle.tree_check.specs.declared.check.TreeAnswer.TheVariants.{Accepted}
-use Rattle.tree_check.specs.Leads.{left_box, right_box, Leads, here}
+use Rattle.tree_check.specs.Leads.{left_box, right_box, here}
 use Rattle.tree_check.specs.TreeCheck.{TreeChecked}
 use Rattle.tree_check.specs.Figures.{LeafFigures}
 use Rattle.tree_check.proofs.Built.{Built, of_none, of_leaf, of_cut, built_forward}

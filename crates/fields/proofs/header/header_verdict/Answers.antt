@@ -1,6 +1,5 @@
 -- `fields::header::header_verdict` meets its contract: the length decides first, and then the fields in turn.
 -- The invariant: the fields before this one are fine, so what is left decides. Assumes nothing.
-use Prim.Native.Nat.{◌-◌}
 use native.Mathlib.Omega.{arith}
 use mathlib.Core.Path.{sym, ◌∙◌}
 use Rattle.refusals.proofs.Turns.{head_first, head_step, head_stop, head_last}

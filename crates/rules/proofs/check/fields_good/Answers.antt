@@ -1,11 +1,8 @@
 -- `rules::check::fields_good` meets its contract: a field that is not good ends it. The invariant: the fields before
 -- this one are good. Assumes nothing.
-use Prim.Native.Nat.{◌-◌}
 use native.Mathlib.Omega.{arith}
 use Rattle.facts.proofs.Bools.{held, failed}
 use Rattle.facts.proofs.Below.{passed_first, passed_step, passed_stop, passed_last}
-use Rattle.fields.specs.Fields.{field_good}
-use Rattle.rules.specs.Words.{field_of}
 use Rattle.rules.specs.Good.{fields_good}
 use Rattle.rules.proofs.check.fields_good.Goals as goal
 

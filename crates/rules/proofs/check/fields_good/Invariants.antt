@@ -1,7 +1,6 @@
 -- `rules::check::fields_good` meets its contract: a field that is not good ends it. The invariant: the fields before
 -- this one are good. Assumes nothing.
 use Prim.Native.Nat.{◌-◌}
-use borrow.Author.Rules.{rules}
 use Rattle.facts.proofs.Below.{AllPassed}
 use Rattle.fields.specs.Words.{field_count}
 use Rattle.fields.specs.Fields.{field_good}

@@ -1,6 +1,5 @@
 -- `rules::check::rules_verdict` meets its contract: the number of words decides first, and then the rules in turn.
 -- The invariant: the rules before this one are fine, so what is left decides. Assumes nothing.
-use Prim.Native.Nat.{◌-◌}
 use native.Mathlib.Omega.{arith}
 use mathlib.Core.Path.{refl, sym, ◌∙◌}
 use Rattle.facts.proofs.Bools.{held, failed}
@@ -25,10 +24,10 @@ returns-then-not-good_to c = let refused = rule_refused _ _ _ (failed c.good_to.
 
 pub loop-rule-preserved : goal.loop-rule-preserved
 loop-rule-preserved c = (
-      refl,
-      omega arith,
-      head_step c.loop-rule.invariant.2 (omega arith) (rule_fine _ _ _ (held c.good_to.ensures c.if-not-good_to.false)),
-    )
+  refl,
+  omega arith,
+  head_step c.loop-rule.invariant.2 (omega arith) (rule_fine _ _ _ (held c.good_to.ensures c.if-not-good_to.false)),
+)
 
 pub returns : goal.returns
 returns c = sym

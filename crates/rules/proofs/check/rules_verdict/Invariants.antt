@@ -2,7 +2,6 @@
 -- The invariant: the rules before this one are fine, so what is left decides. Assumes nothing.
 use Prim.Native.Nat.{◌≤◌, ◌-◌}
 use mathlib.Core.Path.{◌≡◌}
-use borrow.Author.Rules.{rules}
 use Rattle.refusals.proofs.Turns.{Head}
 use Rattle.rules.specs.Words.{rule_count}
 use Rattle.rules.specs.Good.{rule_verdict}

@@ -1,12 +1,9 @@
 -- `rules::lacking::box_meets` meets its contract: a field that does not meet ends it. The invariant: the fields before
 -- this one meet. Assumes nothing.
-use Prim.Native.Nat.{◌-◌}
 use native.Mathlib.Omega.{arith}
 use mathlib.Core.Path.{◌∙◌}
 use Rattle.facts.proofs.Bools.{held, failed}
 use Rattle.facts.proofs.Below.{passed_first, passed_step, passed_stop, passed_last}
-use Rattle.fields.specs.Fields.{field_meets}
-use Rattle.rules.specs.Words.{field_of}
 use Rattle.rules.proofs.Meaning.{fields_meet}
 use Rattle.rules.proofs.lacking.box_meets.Goals as goal
 

@@ -3,7 +3,6 @@
 use Prim.Native.Nat.{◌-◌}
 use mathlib.Core.List.{[]}
 use lib.ListN.{get_or}
-use borrow.Author.Rules.{rules}
 use Rattle.facts.proofs.Below.{AllPassed}
 use Rattle.fields.specs.Words.{field_count}
 use Rattle.fields.specs.Fields.{field_meets}

@@ -1,10 +1,9 @@
 -- `rules::lacking::lowest_lacking` meets its contract. The invariant: no rule before this one is lacking, so the lowest
 -- of the rest is the lowest of all. Assumes nothing.
-use Prim.Native.Nat.{◌-◌}
 use native.Mathlib.Omega.{arith}
 use mathlib.Core.Path.{refl, sym, ◌∙◌}
 use Rattle.facts.proofs.Lowest.{lowest_first, lowest_hit, lowest_step, lowest_last}
-use Rattle.rules.specs.Lacking.{lacking, lowest_lacking}
+use Rattle.rules.specs.Lacking.{lowest_lacking}
 use Rattle.rules.proofs.lacking.lowest_lacking.Goals as goal
 
 pub loop-r-init : goal.loop-r-init

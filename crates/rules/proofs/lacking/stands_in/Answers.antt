@@ -1,6 +1,5 @@
 -- `rules::lacking::stands_in` meets its contract. The invariant: no entry before this one is the number, so the rest
 -- decides. Assumes nothing.
-use Prim.Native.Nat.{◌-◌}
 use native.Mathlib.Omega.{arith}
 use mathlib.Core.Path.{sym, ◌∙◌}
 use Rattle.facts.proofs.Steps.{drop_step, drop_end}

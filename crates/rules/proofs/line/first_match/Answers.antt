@@ -1,13 +1,10 @@
 -- `rules::line::first_match` meets its contract. The invariant: no rule before this one matches, so the first of the
 -- rest is the first of all. Assumes nothing.
-use Prim.Native.Nat.{◌-◌}
 use native.Mathlib.Nat.{sub-zero}
 use native.Mathlib.Omega.{arith}
 use mathlib.Core.Path.{sym, ◌∙◌}
-use borrow.Author.Rules.{rules}
 use Rattle.facts.proofs.Steps.{up_step, up_end}
 use Rattle.facts.proofs.Seeking.{none_first, first_found, none_step, none_last}
-use Rattle.rules.specs.Matching.{matches}
 use Rattle.rules.specs.Scan.{scan_count, scanned}
 use Rattle.rules.proofs.Searches.{scan_count_at_most, found_first, found_none}
 use Rattle.rules.proofs.line.first_match.Goals as goal

@@ -2,7 +2,6 @@
 -- rest is the first of all. Assumes nothing.
 use Prim.Native.Nat.{◌≤◌, ◌-◌}
 use mathlib.Core.Path.{◌≡◌}
-use borrow.Author.Rules.{rules}
 use Rattle.facts.specs.Lists.{up_from}
 use Rattle.facts.proofs.Seeking.{NoneYet}
 use Rattle.rules.specs.Matching.{matches}

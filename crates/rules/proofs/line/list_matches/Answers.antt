@@ -5,7 +5,6 @@ use native.Mathlib.Omega.{arith}
 use mathlib.Core.Path.{◌≡◌, refl, ap}
 use mathlib.Core.List.{[], ◌∷◌, ◌++◌}
 use lib.ListN.{length}
-use borrow.Author.Rules.{rules}
 use Rattle.facts.proofs.Setting.{none_before}
 use Rattle.refusals.specs.Paper.{success}
 use Rattle.refusals.proofs.Rooms.{kept_short, kept_listed}

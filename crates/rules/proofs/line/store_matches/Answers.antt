@@ -1,13 +1,10 @@
 -- `rules::line::store_matches` meets its contract. The invariant: what is stored, and what will be of the rules from
 -- here on, are all that match. Assumes nothing.
-use Prim.Native.Nat.{◌-◌}
 use native.Mathlib.Nat.{sub-zero}
 use native.Mathlib.Omega.{arith}
 use mathlib.Core.Path.{sym, ◌∙◌}
-use borrow.Author.Rules.{rules}
 use Rattle.facts.proofs.Steps.{up_step, up_end}
 use Rattle.facts.proofs.Filling.{filled_first, filled_size, filled_in, filled_out, filled_last}
-use Rattle.rules.specs.Matching.{matches}
 use Rattle.rules.specs.Scan.{scan_count}
 use Rattle.rules.proofs.Searches.{scan_count_at_most, scan_count_fits}
 use Rattle.rules.proofs.line.store_matches.Goals as goal
@@ -27,7 +24,7 @@ loop-r-preserved c = let rules = c.args.rules.now in
     let step = up_step (scan_count rules) c.loop-r.r (omega arith) in
     let said = sym c.matches.ensures in
     elim c.if-matches.branch [
-      then-matches w ↦ (
+      | then-matches w ↦ (
         c.loop-r.invariant.0,
         omega arith,
         omega (arith, w.n-is),

@@ -2,7 +2,6 @@
 -- here on, are all that match. Assumes nothing.
 use Prim.Native.Nat.{◌≤◌, ◌-◌}
 use mathlib.Core.Path.{◌≡◌}
-use borrow.Author.Rules.{rules}
 use Rattle.facts.specs.Lists.{up_from}
 use Rattle.facts.proofs.Filling.{Filled}
 use Rattle.rules.specs.Matching.{matches}

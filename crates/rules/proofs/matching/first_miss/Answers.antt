@@ -1,7 +1,6 @@
 -- `rules::matching::first_miss` meets its contract: the rule's own words have the same fields. Assumes nothing.
 use native.Mathlib.Omega.{arith}
 use mathlib.Core.Path.{◌∙◌}
-use borrow.Author.Rules.{rules}
 use Rattle.rules.proofs.Forms.{own_words_there, own_words_miss}
 use Rattle.rules.proofs.matching.first_miss.Goals as goal
 

@@ -1,6 +1,5 @@
 -- `rules::matching::miss_in_rule` meets its contract: a field that disagrees ends it. The invariant: the fields before
 -- this one agree, so the lowest of the rest is the lowest of all. Assumes nothing.
-use Prim.Native.Nat.{◌-◌}
 use native.Mathlib.Omega.{arith}
 use mathlib.Core.Bool.{not}
 use mathlib.Core.Path.{sym, ap}

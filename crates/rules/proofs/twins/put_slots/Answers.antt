@@ -1,9 +1,7 @@
 -- `rules::twins::put_slots` meets its contract. The invariant: the slots of the rules before this one are stored.
 -- Assumes nothing.
-use Prim.Native.Nat.{◌-◌}
 use native.Mathlib.Omega.{arith}
 use mathlib.Core.Path.{refl, sym, ◌∙◌}
-use Rattle.rules.specs.Chains.{slot_of}
 use Rattle.rules.proofs.Slots.{slot_below, slots_first, slots_step, slots_last}
 use Rattle.rules.proofs.twins.put_slots.Goals as goal
 

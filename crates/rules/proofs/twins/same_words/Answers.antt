@@ -1,11 +1,9 @@
 -- `rules::twins::same_words` meets its contract: a word that differs ends it. The invariant: the words before this one
 -- are equal. Assumes nothing.
-use Prim.Native.Nat.{◌-◌}
 use native.Mathlib.Omega.{arith}
 use mathlib.Core.Path.{sym, ◌∙◌}
 use borrow.Author.Tests.{eq-eqb, ne_eqb}
 use Rattle.facts.proofs.Below.{passed_first, passed_step, passed_stop, passed_last}
-use Rattle.rules.specs.Words.{word_of}
 use Rattle.rules.specs.Twins.{same_words}
 use Rattle.rules.proofs.twins.same_words.Goals as goal
 

@@ -2,7 +2,6 @@
 -- are equal. Assumes nothing.
 use Prim.Native.Nat.{◌-◌}
 use lib.Dec.{eqb}
-use borrow.Author.Rules.{rules}
 use Rattle.facts.proofs.Below.{AllPassed}
 use Rattle.rules.specs.Words.{match_words, word_of}
 use Rattle.rules.proofs.twins.same_words.Given as goal

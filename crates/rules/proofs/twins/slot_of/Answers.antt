@@ -1,8 +1,8 @@
 -- `rules::twins::slot_of` meets its contract. The invariant: the words before this one are mixed. Assumes nothing.
-use Prim.Native.Nat.{◌+◌, ◌*◌, ◌-◌}
+use Prim.Native.Nat.{◌+◌, ◌*◌}
 use native.Mathlib.Omega.{arith}
 use mathlib.Core.Path.{◌∙◌}
-use Rattle.rules.specs.Words.{rule_words, word_of}
+use Rattle.rules.specs.Words.{rule_words}
 use Rattle.rules.proofs.Slots.{mixed_first, mixed_step, product_fits, sum_fits, mixed_last}
 use Rattle.rules.proofs.twins.slot_of.Goals as goal
 

@@ -1,6 +1,5 @@
 -- `rules::twins::slot_of` meets its contract. The invariant: the words before this one are mixed. Assumes nothing.
 use Prim.Native.Nat.{◌-◌}
-use borrow.Author.Rules.{rules}
 use Rattle.rules.specs.Words.{match_words, word_of}
 use Rattle.rules.proofs.Slots.{Mixed}
 use Rattle.rules.proofs.twins.slot_of.Given as goal

@@ -1,6 +1,5 @@
 -- `rules::twins::twin_in` meets its contract. The invariant: the rule at this place is in r's slot, and none from it on
 -- has r's words. Assumes nothing.
-use borrow.Author.Rules.{rules}
 use Rattle.rules.specs.Chains.{slot_of}
 use Rattle.rules.proofs.Slots.{slot_of_same}
 use Rattle.rules.proofs.Chains.{Sought}

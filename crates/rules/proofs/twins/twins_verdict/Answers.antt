@@ -1,6 +1,6 @@
 -- `rules::twins::twins_verdict` meets its contract. The invariant: the rules before this one are chained, none of them
 -- has a twin before it, and the slots of the others stand behind. Assumes nothing.
-use Prim.Native.Nat.{ℕ, ◌-◌}
+use Prim.Native.Nat.{ℕ}
 use native.Mathlib.Omega.{arith}
 use mathlib.Core.Path.{refl}
 use lib.ListN.{length-replicate}
@@ -41,12 +41,12 @@ bounds-latest-slot-in-loop-rule c = let slot = apart_slot _ _ c.loop-rule.invari
 
 pub loop-rule-preserved : goal.loop-rule-preserved
 loop-rule-preserved c = let slot = apart_slot _ _ c.loop-rule.invariant.3 c.wide-slot.ensures (omega arith) in (
-      refl,
-      omega arith,
-      c.loop-rule.invariant.2,
-      apart_step _ _ c.loop-rule.invariant.3 slot (slot_below _ _ slot) c.twin_in-earlier.ensures c.if-earlier-rule.false
-          (omega arith) c.loop-rule.invariant.2,
-    )
+  refl,
+  omega arith,
+  c.loop-rule.invariant.2,
+  apart_step _ _ c.loop-rule.invariant.3 slot (slot_below _ _ slot) c.twin_in-earlier.ensures c.if-earlier-rule.false
+      (omega arith) c.loop-rule.invariant.2,
+)
 
 pub returns : goal.returns
 returns c = apart_last _ _ c.loop-rule.invariant.3 (omega arith)

@@ -2,7 +2,6 @@
 -- has a twin before it, and the slots of the others stand behind. Assumes nothing.
 use Prim.Native.Nat.{◌-◌, ◌≤◌}
 use mathlib.Core.Path.{◌≡◌}
-use borrow.Author.Rules.{rules}
 use Rattle.rules.specs.Words.{most_rules, rule_count}
 use Rattle.rules.specs.Chains.{slot_of}
 use Rattle.rules.proofs.Chaining.{AllApart}

@@ -1,7 +1,6 @@
 -- `rules::words::action_of` meets its contract: a rule that is not wholly lent has action 0. Assumes nothing.
 use native.Mathlib.Omega.{arith}
 use borrow.Author.Tests.{ltb-true, ltb-false}
-use borrow.Author.Rules.{rules}
 use Rattle.facts.proofs.Bools.{held, failed}
 use Rattle.rules.proofs.Actions.{no_action}
 use Rattle.rules.proofs.words.action_of.Goals as goal

@@ -4,7 +4,6 @@ use Prim.Native.Nat.{ℕ}
 use native.Mathlib.Omega.{arith}
 use mathlib.Core.Path.{sym, ap, ◌∙◌}
 use mathlib.Core.List.{List}
-use borrow.Author.Rules.{rules}
 use Rattle.tree_check.specs.Whole.{most_cuts}
 use Rattle.tree_check.specs.Preorder.{part_of}
 use Rattle.tree_check.specs.TreeCheck.{root_part}

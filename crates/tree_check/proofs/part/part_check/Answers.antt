@@ -5,7 +5,6 @@ use native.Mathlib.Omega.{arith}
 use mathlib.Core.Bool.{true}
 use mathlib.Core.Path.{sym, ap, ◌∙◌}
 use mathlib.Core.List.{List}
-use borrow.Author.Rules.{rules}
 use Rattle.tree_check.specs.Whole.{most_cuts}
 use Rattle.tree_check.specs.Preorder.{preorder_of}
 use Rattle.tree_check.proofs.PartChecks.{so_spelt, early_refused, count_refused, words_refused, root_decides}

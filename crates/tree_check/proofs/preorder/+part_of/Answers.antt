@@ -69,9 +69,8 @@ part_of-requires-in-Good t c =
 pub join-requires : goal.join-requires
 join-requires t c =
     let left =
-        left_shallow _ _ _ _ _ _ _ (cut_seen (goal.at.join-requires t c).In-Cut) _ c.left_part.ensures
-        c.part_of.ensures c.in-Good.is in
-    (
+    left_shallow _ _ _ _ _ _ _ (cut_seen (goal.at.join-requires t c).In-Cut) _ c.left_part.ensures
+    c.part_of.ensures c.in-Good.is in (
       omega (arith, c.requires.1, left),
       part_is_shallow _ _ _ _ _ _ _ _ c.part_of-in-Good.ensures (omega (arith, c.requires.1)),
     )

@@ -1,6 +1,5 @@
 -- `tree_check::preorder::rising` meets its contract. The invariant: the numbers so far rise, and the next must be at
 -- least `low`. Assumes nothing.
-use Prim.Native.Nat.{◌-◌}
 use native.Mathlib.Omega.{arith}
 use mathlib.Core.Path.{sym}
 use Rattle.facts.proofs.Steps.{drop_step, drop_end}
@@ -20,11 +19,11 @@ after-low-requires c = omega (arith, c.wide-number.ensures, c.shared_slice_known
 
 pub loop-i-preserved : goal.loop-i-preserved
 loop-i-preserved c = (
-      omega arith,
-      rw (c.after-low.ensures, c.wide-number.ensures)
-          (climbing_step c.loop-i.invariant.1 (drop_step _ _ c.loop-i-test.true)
-          (rw c.wide-number.ensures at c.if-number-low.false)),
-    )
+  omega arith,
+  rw (c.after-low.ensures, c.wide-number.ensures)
+      (climbing_step c.loop-i.invariant.1 (drop_step _ _ c.loop-i-test.true)
+      (rw c.wide-number.ensures at c.if-number-low.false)),
+)
 
 pub returns : goal.returns
 returns c = sym (climbing_last c.loop-i.invariant.1 (drop_end _ _ c.loop-i-test.false))

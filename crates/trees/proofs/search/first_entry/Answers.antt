@@ -1,9 +1,7 @@
 -- `trees::search::first_entry` meets its contract. The invariant: no entry before this one matches. Assumes nothing.
-use Prim.Native.Nat.{◌-◌}
 use native.Mathlib.Omega.{arith}
 use mathlib.Core.Path.{◌≡◌, ◌∙◌}
 use lib.ListN.{get_or}
-use borrow.Author.Rules.{rules}
 use Rattle.facts.proofs.Steps.{drop_step, drop_end}
 use Rattle.rules.specs.Matching.{matches}
 use Rattle.trees.proofs.Entries.{compared, looking_first, looking_step, first_is, first_none}

@@ -1,7 +1,6 @@
 -- `trees::search::first_entry` meets its contract. The invariant: no entry before this one matches. Assumes nothing.
 use Prim.Native.Nat.{◌≤◌, ◌-◌}
 use lib.ListN.{length, drop}
-use borrow.Author.Rules.{rules}
 use Rattle.rules.specs.Matching.{matches}
 use Rattle.trees.proofs.Entries.{Looking}
 use Rattle.trees.proofs.search.first_entry.Given as goal

@@ -1,6 +1,5 @@
 -- `trees::search::store_entries` meets its contract. The invariant: what is stored, and what will be of the entries
 -- from here on, are all that match. Assumes nothing.
-use Prim.Native.Nat.{◌-◌}
 use native.Mathlib.Omega.{arith}
 use mathlib.Core.Path.{◌∙◌}
 use Rattle.facts.proofs.Steps.{drop_step, drop_end}
@@ -19,7 +18,7 @@ loop-i-preserved c = let turn = c.loop-i-test.true in
     compared c.requires turn c.wide.ensures
     c.rule_matches.ensures in
     elim c.if-rule_matches.branch [
-      then-rule_matches w ↦ (
+      | then-rule_matches w ↦ (
         omega arith,
         omega (arith, w.n-is),
         rw (w.out-is, w.n-is) (filled_in c.loop-i.invariant.2 step (said ∙ w.if-rule_matches.true) w.store.ensures),

@@ -2,7 +2,6 @@
 -- from here on, are all that match. Assumes nothing.
 use Prim.Native.Nat.{◌≤◌, ◌-◌}
 use lib.ListN.{length, drop}
-use borrow.Author.Rules.{rules}
 use Rattle.facts.proofs.Filling.{Filled}
 use Rattle.rules.specs.Matching.{matches}
 use Rattle.trees.proofs.search.store_entries.Given as goal

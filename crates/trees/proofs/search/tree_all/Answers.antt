@@ -2,7 +2,6 @@
 -- decide. Assumes nothing.
 use native.Mathlib.Omega.{arith}
 use mathlib.Core.Path.{subst}
-use borrow.Author.Rules.{rules}
 use Rattle.trees.specs.Steps.{Reaches}
 use Rattle.trees.proofs.Answers.{AtReached, at_reached, part_within, part_comparable}
 use Rattle.trees.proofs.Answers.{all_at_leaf, all_refused}

@@ -1,6 +1,5 @@
 -- `trees::spelt::all_under` meets its contract. The invariant: the numbers so far are below n, so the rest decides.
 -- Assumes nothing.
-use Prim.Native.Nat.{◌-◌}
 use native.Mathlib.Omega.{arith}
 use mathlib.Core.Path.{sym}
 use Rattle.facts.proofs.Steps.{drop_step, drop_end}
@@ -16,10 +15,10 @@ returns-then-n-wide c = sym (under_over c.loop-i.invariant.1 (drop_step _ _ c.lo
 
 pub loop-i-preserved : goal.loop-i-preserved
 loop-i-preserved c = (
-      omega arith,
-      under_step c.loop-i.invariant.1 (drop_step _ _ c.loop-i-test.true)
-          (rw c.wide.ensures at c.if-n-wide.false),
-    )
+  omega arith,
+  under_step c.loop-i.invariant.1 (drop_step _ _ c.loop-i-test.true)
+      (rw c.wide.ensures at c.if-n-wide.false),
+)
 
 pub returns : goal.returns
 returns c = sym (under_last c.loop-i.invariant.1 (drop_end _ _ c.loop-i-test.false))

@@ -3,7 +3,6 @@
 use Prim.Native.Nat.{◌-◌, ◌≤◌}
 use mathlib.Core.Path.{◌≡◌}
 use lib.ListN.{length}
-use borrow.Author.Rules.{rules}
 use Rattle.refusals.proofs.Turns.{Head}
 use Rattle.trees.specs.Words.{node_count}
 use Rattle.trees.specs.Spelt.{counts_below, node_verdict}

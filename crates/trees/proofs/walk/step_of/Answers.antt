@@ -18,7 +18,7 @@ returns-then-node_word-i c = step_back _ _ _ (omega arith) (omega (arith, c.node
     (rw c.node_word.ensures.is at c.if-node_word-i.true)
 
 pub side_of-requires : goal.side_of-requires
-side_of-requires c = record { i_bound = (omega arith, c.node_word-first.ensures.is); field_lt_leaf_mark = (omega arith, c.requires.0); }
+side_of-requires c = record { i_bound = (omega arith, c.node_word-first.ensures.is); field_lt_leaf_mark = (omega arith, c.requires.0) }
 
 pub returns : goal.returns
 returns c = step_on _ _ _ (omega arith) (omega (arith, c.node_word-first.ensures.is))

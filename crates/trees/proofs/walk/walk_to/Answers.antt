@@ -1,6 +1,6 @@
 -- `trees::walk::walk_to` meets its contract. The invariant: so many cuts lie behind, and the walk from here on decides.
 -- Numbers rise on the way. Assumes nothing.
-use Prim.Native.Nat.{◌+◌, ◌-◌, ◌*◌, ◌^◌}
+use Prim.Native.Nat.{◌+◌, ◌*◌, ◌^◌}
 use native.Mathlib.Omega.{arith}
 use mathlib.Core.Path.{◌≡◌, sym, ◌∙◌}
 use Rattle.trees.specs.declared.walk.Step.TheVariants.{Next}

@@ -1,8 +1,7 @@
 -- The part of the part file is taken: what the reader of parts says, in words instead of nodes; and a compile goes on
 -- from it where the part check lets it.
 use Prim.Native.Nat.{ℕ, ◌*◌, ◌≤◌, min}
-use native.Mathlib.Omega.{arith}
-use mathlib.Core.Path.{◌≡◌, refl, sym, ap, subst, ◌∙◌}
+use mathlib.Core.Path.{◌≡◌, refl, ap, subst, ◌∙◌}
 use mathlib.Core.List.{List, [], ◌∷◌}
 use mathlib.Core.Option.{Option, none, some}
 use lib.ListN.{length, take}

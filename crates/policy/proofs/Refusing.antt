@@ -1,6 +1,5 @@
 -- Where there is room for any list and any tree, what is refused is what the files hold.
 use Prim.Native.Nat.{ℕ, ◌*◌, ◌≤◌}
-use native.Mathlib.Omega.{arith}
 use mathlib.Core.Path.{◌≡◌, refl, sym, ap, ◌∙◌}
 use mathlib.Core.List.{List, [], ◌∷◌}
 use mathlib.Core.Option.{Option}
@@ -24,7 +23,7 @@ use Rattle.policy.specs.declared.tree.Taken.TheVariants.{Refused, Words}
 use Rattle.policy.specs.Files.{list_in, tree_of}
 use Rattle.policy.specs.TakeList as take_list
 use Rattle.policy.specs.TakeList.{ListTaken}
-use Rattle.policy.specs.TakeTree.{paper, TreeTaken}
+use Rattle.policy.specs.TakeTree.{TreeTaken}
 use Rattle.policy.specs.WhoServes.{serving, serving_of}
 use Rattle.policy.specs.Output.{own_verdict, serving_verdict}
 use Rattle.policy.proofs.Stored.{stands}

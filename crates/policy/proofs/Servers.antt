@@ -18,7 +18,6 @@ use Rattle.console.proofs.Agreeing.{same_answer}
 use Rattle.policy.specs.declared.tree.Taken.{Taken}
 use Rattle.policy.specs.declared.tree.Taken.TheVariants.{Refused, Words}
 use Rattle.policy.specs.declared.serving.Serving.{Serving}
-use Rattle.policy.specs.TakeTree.{paper}
 use Rattle.policy.specs.WhoServes.{by_tree, serving, serving_of}
 use Rattle.policy.specs.Output.{by_list, answers_by}
 use Rattle.policy.proofs.Bytes.{take_within}

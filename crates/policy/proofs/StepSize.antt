@@ -1,5 +1,5 @@
 -- A step of a compile that is not refused has a text, and it is no longer than a file may be.
-use Prim.Native.Nat.{ℕ, ◌+◌, ◌*◌, ◌≤◌, ◌<◌, max}
+use Prim.Native.Nat.{ℕ, ◌+◌, ◌*◌, ◌≤◌, ◌<◌}
 use native.Mathlib.Omega.{arith}
 use mathlib.Core.Bool.{Bool, true, false}
 use mathlib.Core.Path.{◌≡◌, refl, sym, ◌∙◌}
@@ -33,7 +33,6 @@ use Rattle.built.proofs.StopLies.{stop_lies}
 use Rattle.built.proofs.PartTaken.{part_covers}
 use Rattle.builder.specs.Build.{at_least_one}
 use Rattle.builder.proofs.StopCalls.{at_least_one_lem}
-use Rattle.text.specs.Words.{tree_word, part_word}
 use Rattle.tree_file.specs.TreeLines.{Spelling}
 use Rattle.policy.specs.Files.{most_file}
 use Rattle.policy.specs.Steps.{step_word, step_text, step_verdict}

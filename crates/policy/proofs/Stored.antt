@@ -8,7 +8,7 @@ use Rattle.facts.specs.Lists.{written}
 use Rattle.facts.proofs.Setting.{written_front}
 use Rattle.trees.specs.Words.{node_words}
 use Rattle.built.specs.Trees.{Tree}
-use Rattle.built.specs.Layout.{size, pooled, laid}
+use Rattle.built.specs.Layout.{size, laid}
 use Rattle.built.proofs.Laying.{length_laid}
 
 -- words that were written stand in front, and are within

@@ -1,5 +1,4 @@
 -- `policy::part::goes_on` meets its contract: of the words that were taken the part check decides. Assumes nothing.
-use borrow.Author.Rules.{rules}
 use Rattle.policy.proofs.Bytes.{within_length}
 use Rattle.policy.proofs.PartTaking.{none_goes_on, judged_goes_on}
 use Rattle.policy.proofs.part.goes_on.Goals as goal

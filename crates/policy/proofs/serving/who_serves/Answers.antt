@@ -1,5 +1,4 @@
 -- `policy::serving::who_serves` meets its contract: of the words that were taken the check decides. Assumes nothing.
-use borrow.Author.Rules.{rules}
 use Rattle.policy.proofs.Bytes.{within_length}
 use Rattle.policy.proofs.Servers.{serves_list, serves_checked}
 use Rattle.policy.proofs.serving.who_serves.Goals as goal

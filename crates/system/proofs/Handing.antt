@@ -1,5 +1,5 @@
 -- What is handed out: what was said in front of lent bytes, where there is room for it.
-use Prim.Native.Nat.{ℕ, ◌≤◌, ◌^◌, ◌<◌}
+use Prim.Native.Nat.{ℕ, ◌≤◌}
 use native.Mathlib.Omega.{arith}
 use mathlib.Core.Bool.{Bool, true, false}
 use mathlib.Core.Path.{◌≡◌, refl, sym, ap, subst, ◌∙◌}

@@ -1,5 +1,5 @@
 -- Standard input to its end: by what a read gave, and turn after turn.
-use Prim.Native.Nat.{ℕ, ◌+◌, ◌<◌}
+use Prim.Native.Nat.{ℕ, ◌+◌}
 use native.Mathlib.Omega.{arith}
 use mathlib.Core.Bool.{Bool, true, false}
 use mathlib.Core.Path.{◌≡◌, refl, sym, ap, subst, ◌∙◌}
@@ -12,7 +12,7 @@ use Rattle.ledger.specs.declared.input.Got.TheVariants.{Failed, Ended, Bytes}
 use Rattle.ledger.specs.Reads.{gave, Gets}
 use Rattle.ledger.specs.Ledger.{Entry, read, standard_input}
 use Rattle.console.specs.declared.gather.Gathering.{Gathering}
-use Rattle.console.specs.Gathered.{begun, after, last_reply, answers}
+use Rattle.console.specs.Gathered.{begun, after, last_reply}
 use Rattle.console.proofs.Pieces.{after_pieces}
 use Rattle.system.specs.declared.serve.Turn.{Turn}
 use Rattle.system.specs.Handing.{HandedOut}

@@ -1,7 +1,7 @@
 -- Read after read: the bytes stand in front of the buffer, and the loop ends, since each read brings it nearer to the
 -- buffer's end or gives no bytes. `Head` is the loop's invariant.
 --   left n s    what is left of a buffer of n bytes after the reads s, and one more while more may follow
-use Prim.Native.Nat.{ℕ, ◌+◌, ◌-◌, ◌^◌, ◌≤◌, ◌<◌, max}
+use Prim.Native.Nat.{ℕ, ◌+◌, ◌-◌, ◌^◌, ◌≤◌, ◌<◌}
 use native.Mathlib.Omega.{arith}
 use mathlib.Core.Bool.{true, false, cond}
 use mathlib.Core.Path.{◌≡◌, refl, sym, ap, subst, ◌∙◌}

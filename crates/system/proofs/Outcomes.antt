@@ -1,20 +1,14 @@
 -- What comes of a run: what is handed out is what is due.
 use Prim.Native.Nat.{ℕ}
-use native.Mathlib.Omega.{arith}
 use mathlib.Core.Bool.{Bool, true, false}
 use mathlib.Core.Path.{◌≡◌, refl, sym, ap, subst, ◌∙◌}
 use mathlib.Core.List.{List, [], ◌∷◌, ◌++◌, append_assoc, append-nil}
 use mathlib.Core.Option.{Option}
 use lib.ListN.{length}
 use Rattle.facts.proofs.Bools.{clash}
-use Rattle.refusals.specs.declared.Refusal.{Refusal}
-use Rattle.refusals.specs.declared.Verdict.TheVariants.{Refused}
-use Rattle.text.specs.Text.{good, refused}
 use Rattle.console.specs.Gathered.{begun, after, answers, last_reply, input_replies}
-use Rattle.console.proofs.Pieces.{after_pieces, answers_pieces}
+use Rattle.console.proofs.Pieces.{answers_pieces}
 use Rattle.console.proofs.Whole.{whole_input}
-use Rattle.policy.specs.Files.{list_in}
-use Rattle.policy.specs.Output.{verdict_line}
 use Rattle.ledger.specs.declared.input.Descriptor.{Descriptor}
 use Rattle.ledger.specs.declared.input.Got.TheVariants.{Bytes}
 use Rattle.ledger.specs.Ledger.{Entry, wrote, handed, input_of}
@@ -25,8 +19,7 @@ use Rattle.system.specs.Handing as handing
 use Rattle.system.specs.Handing.{HandedOut, Gives}
 use Rattle.system.specs.Turns as turns
 use Rattle.system.specs.Turns.{AllShort, Unfinished, Turns, InputAnswered}
-use Rattle.system.specs.Runs.{ByFile, no_list, with_list}
-use Rattle.system.specs.Outcomes.{Hands, FilesThen}
+use Rattle.system.specs.Outcomes.{Hands}
 
 -- ---- files hand out nothing
 

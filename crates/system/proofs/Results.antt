@@ -2,27 +2,25 @@
 -- output say.
 use Prim.Native.Nat.{ℕ, ◌^◌, ◌<◌}
 use native.Mathlib.Omega.{arith}
-use mathlib.Core.Bool.{Bool, true, false}
-use mathlib.Core.Path.{◌≡◌, refl, sym, ap, subst, ◌∙◌}
+use mathlib.Core.Bool.{Bool}
+use mathlib.Core.Path.{◌≡◌, refl, sym, ap, ◌∙◌}
 use mathlib.Core.List.{List, [], ◌∷◌, ◌++◌, append_assoc}
 use mathlib.Core.Option.{Option, none}
 use Rattle.refusals.specs.declared.Refusal.{Refusal}
-use Rattle.refusals.specs.declared.Verdict.TheVariants.{Fine, Refused}
+use Rattle.refusals.specs.declared.Verdict.TheVariants.{Refused}
 use Rattle.text.specs.Text.{Reading, good, refused}
-use Rattle.tree_file.specs.TreeText.{tree}
 use Rattle.console.specs.Gathered.{input_replies}
 use Rattle.console.specs.MissLines.{miss_answer}
 use Rattle.console.proofs.Short.{answer_short, miss_short}
 use Rattle.policy.specs.Files.{list_in, part_of, most_file}
 use Rattle.policy.specs.Output.{by_list, verdict_line, on_list, output}
 use Rattle.policy.specs.Compiled.{largest_build, built_text}
-use Rattle.policy.specs.StepOutput.{text_or, first_step, next_step, on_part, first_output, next_output}
+use Rattle.policy.specs.StepOutput.{text_or, first_step, next_step, first_output, next_output}
 use Rattle.policy.proofs.Listing.{list_good, list_below}
 use Rattle.policy.proofs.Output.{output_by_list, output_refused}
 use Rattle.ledger.specs.Ledger.{Entry, argued, handed}
 use Rattle.system.specs.Files.{FileLoaded}
-use Rattle.system.specs.Handing.{HandedOut}
-use Rattle.system.specs.Turns.{AllShort, InputAnswered}
+use Rattle.system.specs.Turns.{AllShort}
 use Rattle.system.specs.Runs as runs
 use Rattle.system.specs.Runs.{tree_name, ByFile, no_list, with_list, Served, ProgramRan, NextStep, gone_on, anew}
 use Rattle.system.specs.Runs.{WhyAnswered, WholeTaken, FirstTaken, NextTaken}

@@ -1,7 +1,7 @@
 -- Whole runs: what the functions of a program enter goes together to what its run enters.
 use Prim.Native.Nat.{ℕ}
 use mathlib.Core.Bool.{Bool, true, false}
-use mathlib.Core.Path.{◌≡◌, sym, subst}
+use mathlib.Core.Path.{◌≡◌, subst}
 use mathlib.Core.List.{List, ◌++◌}
 use mathlib.Core.Option.{Option}
 use Rattle.refusals.specs.declared.Refusal.{Refusal}

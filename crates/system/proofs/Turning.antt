@@ -4,20 +4,15 @@ use Prim.Native.Nat.{ℕ, ◌+◌, ◌-◌, ◌≤◌, ◌<◌}
 use native.Mathlib.Omega.{arith}
 use mathlib.Core.Bool.{Bool, true, false}
 use mathlib.Core.Path.{◌≡◌, refl, sym, ap, subst, ◌∙◌}
-use mathlib.Core.List.{List, [], ◌∷◌, ◌++◌, append-nil}
+use mathlib.Core.List.{List, [], ◌∷◌, ◌++◌}
 use lib.ListN.{length, get_or, take, drop, length-drop, length-take, take-append-drop}
 use lib.Seq.{take_all, take-take, take-add}
-use Rattle.facts.specs.Lists.{written}
-use Rattle.facts.proofs.Bools.{clash}
 use Rattle.facts.proofs.Steps.{drop_step}
-use Rattle.ledger.specs.declared.input.Got.{Got}
-use Rattle.ledger.specs.declared.input.Got.TheVariants.{Failed, Ended, Bytes}
-use Rattle.ledger.specs.Reads.{gave, Gets}
 use Rattle.ledger.specs.Ledger.{Entry}
 use Rattle.console.specs.declared.gather.Gathering.{Gathering}
 use Rattle.console.specs.declared.feed.Fed.{Fed}
 use Rattle.console.specs.Lines.{most_reply}
-use Rattle.console.specs.Gathered.{begun, after, last_reply, answers}
+use Rattle.console.specs.Gathered.{after, answers}
 use Rattle.console.specs.Feeding.{taken_of, IsFed}
 use Rattle.console.proofs.Parts.{rest_of}
 use Rattle.console.proofs.Pieces.{after_pieces, answers_pieces}
@@ -25,8 +20,8 @@ use Rattle.console.proofs.Short.{some_taken}
 use Rattle.system.specs.declared.serve.Asked.{Asked}
 use Rattle.system.specs.declared.serve.Turn.{Turn}
 use Rattle.system.specs.Handing.{HandedOut, Gives, nothing, and_more}
-use Rattle.system.specs.Turns.{answer_for, more_to_read, input_ended, output_failed, AllShort}
-use Rattle.system.specs.Turns.{Unfinished, unwritten, unfit, PieceAnswered, all, part, GotAnswered}
+use Rattle.system.specs.Turns.{answer_for, more_to_read, output_failed, AllShort}
+use Rattle.system.specs.Turns.{Unfinished, unwritten, unfit, PieceAnswered, all, part}
 use Rattle.system.proofs.Handing.{front_written}
 
 as_said : {bs : List ℕ} {a b : Bool} {ws : List Entry} → a ≡ b → HandedOut bs a ws → HandedOut bs b ws

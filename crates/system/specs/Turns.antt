@@ -21,7 +21,7 @@
 use Rattle.std.specs.Prelude.{ℕ, ◌+◌, ◌≤◌, ◌<◌, Bool, true, false, ◌≡◌, List, [], ◌∷◌, ◌++◌, length, take}
 use Rattle.ledger.specs.declared.input.Got.{Got}
 use Rattle.ledger.specs.declared.input.Got.TheVariants.{Failed, Ended, Bytes}
-use Rattle.ledger.specs.Ledger.{Entry, read, wrote, standard_input}
+use Rattle.ledger.specs.Ledger.{Entry, read, standard_input}
 use Rattle.console.specs.declared.gather.Gathering.{Gathering}
 use Rattle.console.specs.Lines.{most_reply}
 use Rattle.console.specs.Replies.{answer_to}

@@ -18,7 +18,7 @@ loop-i-preserved c = let rules = c.args.rules.now in
     let i = c.loop-i.i in
     let found = c.ends_of-ends in
     let words : (k : ℕ) → get_or rules k 0 < 2 ^ address_bits =
-    λ k. omega (arith, c.shared_slice_known-1.given k) in
+    λ k. omega (arith, c.type_inv.rules k) in
     let ends = found.ensures ∙ side_found rules i c.requires.0 words (omega arith) in
     let stored = c.store_all.ensures in (
       c.loop-i.invariant.0,

@@ -14,7 +14,7 @@ overflow_mul-mix c = let said = c.wide.ensures ∙ c.word_of.ensures in
     record {
       fits =
           product_fits c.loop-k.invariant c.loop-k-test.true said
-          (λ i. omega (arith, c.shared_slice_known-1.given (c.args.r * rule_words + i)));
+          (λ i. omega (arith, c.type_inv.rules (c.args.r * rule_words + i)));
     }
 
 pub overflow_add-mix : goal.overflow_add-mix
@@ -22,7 +22,7 @@ overflow_add-mix c = let said = c.wide.ensures ∙ c.word_of.ensures in
     record {
       fits =
           sum_fits c.loop-k.invariant c.loop-k-test.true said
-          (λ i. omega (arith, c.shared_slice_known-1.given (c.args.r * rule_words + i)));
+          (λ i. omega (arith, c.type_inv.rules (c.args.r * rule_words + i)));
     }
 
 pub loop-k-preserved : goal.loop-k-preserved

@@ -15,7 +15,7 @@ returns-then-number-low c = sym
     (rw c.wide-number.ensures at c.if-number-low.true))
 
 pub after-low-requires : goal.after-low-requires
-after-low-requires c = omega (arith, c.wide-number.ensures, c.shared_slice_known-1.given c.loop-i.i)
+after-low-requires c = omega (arith, c.wide-number.ensures, c.type_inv.numbers c.loop-i.i)
 
 pub loop-i-preserved : goal.loop-i-preserved
 loop-i-preserved c = (

@@ -42,6 +42,6 @@ loop-node-smaller c = let g = next_means _ _ _ (step c) in
     omega (arith, g.there, goes_on_rises g)
 
 pub loop-node-preserved : goal.loop-node-preserved
-loop-node-preserved c = let word = c.shared_slice_known-1.given (c.loop-node.at * node_words + 2) in
+loop-node-preserved c = let word = c.type_inv.nodes (c.loop-node.at * node_words + 2) in
     let low = goes_on_below (next_means _ _ _ (step c)) (2 ^ 61) (omega arith) (omega (arith, word)) in
     (omega (arith, low), walking_step c.loop-node.invariant.1 (step c))

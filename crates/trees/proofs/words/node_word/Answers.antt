@@ -6,5 +6,5 @@ use Rattle.trees.proofs.words.node_word.Goals as goal
 
 pub returns : goal.returns
 returns c = let s = c.args in
-    let word = c.shared_slice_known-1.given (s.i * node_words + s.j) in
+    let word = c.type_inv.nodes (s.i * node_words + s.j) in
     record { is = c.wide.ensures; small = omega (arith, c.wide.ensures, word) }

@@ -2,7 +2,7 @@
 use Prim.Native.Nat.{ℕ, ◌≤◌}
 use mathlib.Core.Path.{◌≡◌, sym, ap, subst, fun_ext, ◌∙◌}
 use mathlib.Core.List.{List}
-use lib.ListN.{length, take}
+use lib.ListN.{length}
 use Rattle.policy.specs.declared.tree.Taken.{Taken}
 use Rattle.policy.specs.declared.serving.Serving.{Serving}
 use Rattle.policy.specs.WhoServes.{serving_of}

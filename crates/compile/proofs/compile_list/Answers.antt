@@ -1,0 +1,24 @@
+-- `compile::compile_list` meets its contract: the list that is handed on is that of the file. Assumes nothing.
+use native.Mathlib.Omega.{arith}
+use mathlib.Core.Path.{sym}
+use lib.Seq.{length-take-le}
+use Rattle.policy.proofs.Listing.{list_taken}
+use Rattle.policy.proofs.Refusing.{list_untaken}
+use Rattle.system.proofs.Running.{ran_refused, ran_by_list}
+use Rattle.compile.proofs.compile_list.Goals as goal
+
+pub slice_bounds-rules-end : goal.slice_bounds-rules-end
+slice_bounds-rules-end c =
+    (list_taken _ c.take_list.ensures c.in-Words.is).1
+
+pub slice_bounds-write_asked-end : goal.slice_bounds-write_asked-end
+slice_bounds-write_asked-end c =
+    sym (length-take-le _ _ (list_taken _ c.take_list.ensures c.in-Words.is).1)
+
+pub returns-in-Refused : goal.returns-in-Refused
+returns-in-Refused c =
+    ran_refused _ (omega arith) c.load-file.ensures (list_untaken _ (omega arith) c.take_list.ensures c.in-Refused.is) c.say_verdict.ensures
+
+pub returns-in-Words : goal.returns-in-Words
+returns-in-Words c =
+    ran_by_list _ (omega arith) c.load-file.ensures (list_taken _ c.take_list.ensures c.in-Words.is).0 c.write_asked.ensures

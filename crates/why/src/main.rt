@@ -20,6 +20,9 @@ use system::load::{RULES_FILE, load};
 use system::out::say_verdict;
 use system::serve::serve_why;
 
+// The program's own name, and the number of a rule.
+const ARGUMENTS: usize = 2;
+
 // The ledger is begun, and goes through the whole run.
 fn main(rt: HostRuntime) {
     let mut ledger = 0u64;
@@ -30,7 +33,7 @@ fn main(rt: HostRuntime) {
 fn run(ledger: &mut u64, handle: Handle) -> bool
     ensures { Enters (WhyRan result) ledger.old ledger.new }
 {
-    if argument_count(ledger, handle) != 2 {
+    if argument_count(ledger, handle) != ARGUMENTS {
         return true;
     }
     match number_told(ledger, handle) {

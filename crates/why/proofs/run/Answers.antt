@@ -5,14 +5,14 @@ use Rattle.system.specs.Runs.{not_one}
 use Rattle.system.proofs.Asking.{why_wrong, why_ran}
 use Rattle.why.proofs.run.Goals as goal
 
-pub returns-then-argument_count-ne2 : goal.returns-then-argument_count-ne2
-returns-then-argument_count-ne2 c =
-    enters_one (counted _) c.argument_count.ensures (not_one _ c.if-argument_count-ne2.true)
+pub returns-then-argument_count-ne-ARGUMENTS : goal.returns-then-argument_count-ne-ARGUMENTS
+returns-then-argument_count-ne-ARGUMENTS c =
+    enters_one (counted _) c.argument_count.ensures (not_one _ c.if-argument_count-ne-ARGUMENTS.true)
 
 pub returns-in-Wrong : goal.returns-in-Wrong
 returns-in-Wrong c =
-    why_wrong _ _ c.argument_count.ensures c.number_told.ensures c.if-argument_count-ne2.false c.in-Wrong.is
+    why_wrong _ _ c.argument_count.ensures c.number_told.ensures c.if-argument_count-ne-ARGUMENTS.false c.in-Wrong.is
 
 pub returns-in-Number : goal.returns-in-Number
 returns-in-Number c =
-    why_ran _ _ c.argument_count.ensures c.number_told.ensures c.in-Number.is c.if-argument_count-ne2.false c.answer.ensures
+    why_ran _ _ c.argument_count.ensures c.number_told.ensures c.in-Number.is c.if-argument_count-ne-ARGUMENTS.false c.answer.ensures

@@ -1,4 +1,4 @@
-// The compiler of lists into trees as C functions: at once, and in steps.
+// The compiler of lists into trees for C: at once, and in steps.
 ghost use Rattle.std.specs.Prelude.{◌≡◌};
 ghost use Rattle.builder.specs.Build as built;
 ghost use Rattle.exports.specs.Answers.{plainly, as_eight};

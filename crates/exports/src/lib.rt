@@ -1,6 +1,6 @@
-// The public calls as C functions, for programs in other languages; include/wickorchard.h declares them. A slice is
-// passed as a pointer and a length. Each call writes all eight words of `answer`: number (0 on success), place, extra,
-// then the call's values; what is not used is 0. Rests on all libraries.
+// What the C functions do, for programs in other languages: the crate exports_c gives each to C under its name, and
+// include/wickorchard.h declares them. To C a slice is a pointer and a length. Each call writes all eight words of
+// `answer`: number (0 on success), place, extra, then the call's values; what is not used is 0. Rests on all libraries.
 //   line::wick_rule_check, line::wick_line_all, line::wick_line_first, line::wick_scan_all, line::wick_scan_first,
 //   line::wick_rule_misses
 //   tree::wick_tree_all, tree::wick_tree_first, tree::wick_tree_check

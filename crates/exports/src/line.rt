@@ -1,4 +1,4 @@
-// The rule check, the line search, the scan and the call that says why a rule missed, as C functions.
+// The rule check, the line search, the scan and the call that says why a rule missed, for C.
 ghost use Rattle.std.specs.Prelude.{◌≡◌};
 ghost use Rattle.rules.specs.RuleCheck as checked;
 ghost use Rattle.rules.specs.LineAll as listed;

@@ -1,4 +1,4 @@
-// The two writers and the reader of the rule file as C functions.
+// The two writers and the reader of the rule file for C.
 ghost use Rattle.std.specs.Prelude.{◌≡◌};
 ghost use Rattle.rule_file.specs.Kinds.{kind_number};
 ghost use Rattle.rule_file.specs.Reading as read;

@@ -1,4 +1,4 @@
-// The tree search and the tree check as C functions.
+// The tree search and the tree check for C.
 ghost use Rattle.std.specs.Prelude.{◌≡◌};
 ghost use Rattle.trees.specs.TreeAll as listed;
 ghost use Rattle.trees.specs.TreeFirst as first;

@@ -1,4 +1,4 @@
-// The writers and the readers of the tree file and of the part file as C functions.
+// The writers and the readers of the tree file and of the part file for C.
 ghost use Rattle.std.specs.Prelude.{◌≡◌};
 ghost use Rattle.tree_file.specs.Reading as read;
 ghost use Rattle.exports.specs.Answers.{plainly, as_eight};

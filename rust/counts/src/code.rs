@@ -10,17 +10,20 @@ pub struct Function {
     pub public: bool,
     /// How many lines it has, without comments and empty lines.
     pub lines: usize,
-    /// Whether its contract asks anything of its caller.
+    /// Whether its contract asks anything of its caller, and whether it promises anything.
     pub requires: bool,
+    pub ensures: bool,
     /// The paths that its contract names.
     pub cites: Vec<String>,
     pub signature: String,
+    /// The clauses, between signature and body.
+    pub contract: String,
     /// What stands behind the brace that opens its body.
     pub body: String,
 }
 
-/// What is no line of code: comments, imports, and the names of modules.
-const OTHER: [&str; 5] = ["//", "use ", "ghost use ", "mod ", "pub mod "];
+/// What is no line of code: comments, attributes, imports, and the names of modules.
+const OTHER: [&str; 7] = ["//", "#[", "#![", "use ", "ghost use ", "mod ", "pub mod "];
 
 pub fn lines(text: &str) -> Vec<&str> {
     let counted = |line: &&str| !OTHER.iter().any(|start| line.trim_start().starts_with(start));
@@ -49,25 +52,56 @@ pub fn functions(krate: &str, file: &str, text: &str) -> Vec<Function> {
     items.iter().map(|lines| function(krate, file, Scope::of(text, "ghost use "), lines)).collect()
 }
 
+/// Whether a clause begins in this line: `ensures { .. }`, or with a name, `ensures within { .. }`. It may end further
+/// down.
+fn clause(line: &&str) -> bool {
+    ["requires ", "ensures "].iter().any(|word| line.trim_start().starts_with(word))
+}
+
+/// What a line of a contract says: of the first line of a clause, what stands behind the brace.
+fn said(line: &&str) -> String {
+    let behind = line.split_once('{').filter(|_| clause(line));
+    behind.map_or(*line, |(_, behind)| behind).to_string()
+}
+
 fn function(krate: &str, file: &str, mut scope: Scope, lines: &[&str]) -> Function {
-    let clause = |line: &&str| ["requires ", "ensures "].iter().any(|word| line.trim_start().starts_with(word));
-    let body = lines.iter().position(|line| line.ends_with('{') && !clause(line)).unwrap_or(0);
+    // The body's brace stands behind the clauses, and not within one.
+    let mut within = 0;
+    let opens = |line: &&str| {
+        let body = within == 0 && line.ends_with('{') && !clause(line);
+        within += line.matches('{').count();
+        within -= line.matches('}').count().min(within);
+        body
+    };
+    let body = lines.iter().position(opens).unwrap_or(0);
     let signed = lines[..body].iter().position(clause).unwrap_or(body);
     let signature = lines[..signed.max(1)].concat();
     for (parameter, _) in signature.split(['(', ',']).filter_map(|part| part.split_once(": ")) {
         scope.hide(parameter.trim());
     }
-    let contract = lines[signed..body].join("\n");
+    let clauses = &lines[signed.min(body)..body];
+    let begins = |word: &str| clauses.iter().any(|line| line.trim_start().starts_with(word));
     Function {
         krate: krate.to_string(),
         file: file.to_string(),
         name: between(&signature, "fn ", "(").to_string(),
         public: signature.trim_start().starts_with("pub "),
         lines: lines.len(),
-        requires: contract.contains("requires "),
-        cites: scope.paths(&contract),
+        requires: begins("requires "),
+        ensures: begins("ensures "),
+        cites: scope.paths(&clauses.iter().map(said).collect::<Vec<_>>().join("\n")),
+        contract: clauses.join("\n"),
         body: lines[body..].join("\n").split_once('{').map_or(String::new(), |(_, body)| body.to_string()),
         signature,
+    }
+}
+
+impl Function {
+    /// Its name, its parameters and its contract, without the blanks by which it is laid out.
+    pub fn says(&self) -> String {
+        let from = self.signature.find("fn ").unwrap_or(0);
+        let said = format!("{} {}", self.signature[from..].trim_end_matches('{'), self.contract);
+        said.split_whitespace().collect::<String>().replace(",)", ")")
     }
 }
 
@@ -83,7 +117,7 @@ pub fn types(krate: &str, file: &str, text: &str) -> Vec<Definition> {
     let declared = |lines: &Vec<&str>| {
         let kind = if lines[0].contains("enum ") { "enum " } else { "struct " };
         let name = word(between(lines[0], kind, "{"));
-        let variants = lines.iter().map(|line| format!("{module}.{name}.the-variants.{}", word(line)));
+        let variants = lines.iter().map(|line| format!("{module}.{name}.TheVariants.{}", word(line)));
         Definition {
             krate: krate.to_string(),
             file: file.to_string(),

@@ -3,7 +3,7 @@
 use std::collections::{HashMap, HashSet};
 
 use crate::code::{self, Function};
-use crate::guards::{self, VECTORS};
+use crate::guards::{self, LEDGER, VECTORS};
 use crate::names::Scope;
 use crate::specs::{self, Definition};
 use crate::tree::Crate;
@@ -39,13 +39,18 @@ impl Counts {
         guards::hold(&crates, &functions)?;
         let calls = calls(&crates, &functions)?;
         let lines = lines(claims(&crates, "Demand1")?);
-        if let Some(at) = calls.iter().find(|at| !lines.contains(&functions[**at].name.replace('_', "-").as_str())) {
+        if let Some(at) = calls.iter().find(|at| !lines.contains(&functions[**at].name.as_str())) {
             return Err(format!("Calls of Demand1.antt has no line for {}", functions[*at].name));
         }
+        exported(&crates, &functions, &calls)?;
         let mut counts = Counts { crates, definitions, functions, calls, columns: Vec::new() };
         counts.columns = counts.reached()?;
         if let Some(one) = counts.public().find(|one| one.requires) {
             return Err(format!("{}::{}::{} is public and has a requires", one.krate, one.file, one.name));
+        }
+        // The ledger's handle holds what a main is given, of which no contract can say anything.
+        if let Some(one) = counts.public().find(|one| !one.ensures && (&*one.krate, &*one.name) != (LEDGER, "new")) {
+            return Err(format!("{}::{}::{} is public and promises nothing", one.krate, one.file, one.name));
         }
         Ok(counts)
     }
@@ -53,8 +58,8 @@ impl Counts {
     /// The column of each definition. A path into `specs/` of this tree must mean one that is known.
     fn reached(&self) -> Result<Vec<usize>, String> {
         let known = self.definitions.iter().enumerate();
-        let places: HashMap<&String, usize> =
-            known.flat_map(|(at, one)| one.paths.iter().map(move |path| (path, at))).collect();
+        let places: HashMap<&str, usize> =
+            known.flat_map(|(at, one)| one.paths.iter().map(move |path| (path.as_str(), at))).collect();
         let of_calls = self.calls.iter().flat_map(|at| &self.functions[*at].cites).collect();
         let claims = self.definitions.iter().filter(|one| one.krate == "claims").flat_map(|one| &one.paths).collect();
         let runs = self.functions.iter().filter(|one| one.name == "run" && self.is_served(&one.krate));
@@ -64,7 +69,7 @@ impl Counts {
         for (column, cited) in [of_calls, claims, of_runs, of_others].into_iter().enumerate() {
             let mut cited: Vec<&String> = cited;
             while let Some(path) = cited.pop() {
-                match places.get(path) {
+                match starts(path).find_map(|path| places.get(path)) {
                     Some(at) if column < columns[*at] => {
                         columns[*at] = column;
                         cited.extend(&self.definitions[*at].cites);
@@ -96,8 +101,10 @@ impl Counts {
     /// The definitions of `specs/` that have these paths, each once.
     pub fn cited<'a>(&'a self, paths: &'a [String]) -> impl Iterator<Item = &'a Definition> {
         let mut seen = HashSet::new();
-        let once = paths.iter().filter(move |path| seen.insert(*path));
-        once.filter_map(|path| self.definitions.iter().find(|one| !one.of_code && one.paths.contains(path)))
+        let known =
+            |path| self.definitions.iter().position(|one| !one.of_code && one.paths.iter().any(|own| own == path));
+        let cited = paths.iter().filter_map(move |path| starts(path).find_map(known));
+        cited.filter(move |at| seen.insert(*at)).map(|at| &self.definitions[at])
     }
 
     /// The lines of the definitions for which the test holds.
@@ -123,13 +130,18 @@ impl Counts {
     }
 }
 
+/// A path, and its starts: in `low.specs.Words.top.size` the last word may be a part of the value `top`.
+fn starts(path: &str) -> impl Iterator<Item = &str> {
+    std::iter::successors(Some(path), |path| Some(path.rsplit_once('.')?.0))
+}
+
 /// A file of the claims.
 fn claims<'a>(crates: &'a [Crate], file: &str) -> Result<&'a str, String> {
     let claims = crates.iter().find(|one| one.name == "claims").and_then(|one| one.specs.get(file));
     claims.map(String::as_str).ok_or(format!("there is no crates/claims/specs/{file}.antt"))
 }
 
-/// The names of the lines of the claim `Calls`: of `rule_check` it is `rule-check`.
+/// The names of the lines of the claim `Calls`, which are those of the calls.
 fn lines(claims: &str) -> Vec<&str> {
     let record = claims.split("pub record Calls ").nth(1).unwrap_or("").lines().skip(1);
     let own = record.take_while(|line| line.is_empty() || line.starts_with(' '));
@@ -147,4 +159,20 @@ fn calls(crates: &[Crate], functions: &[Function]) -> Result<Vec<usize>, String>
         functions.iter().position(is).ok_or(format!("Code.antt names {path}, which is no public function"))
     };
     statements.map(place).collect()
+}
+
+/// The claims name no function of a static library, since no crate can stand on one. So each must be a public call, as
+/// another crate has it, word for word: with its name, its parameters and its contract.
+fn exported(crates: &[Crate], functions: &[Function], calls: &[usize]) -> Result<(), String> {
+    let is_static = |name: &str| crates.iter().any(|one| one.name == name && one.is_static);
+    for one in functions.iter().filter(|one| is_static(&one.krate)) {
+        let same = |at: &&usize| functions[**at].says() == one.says() && functions[**at].cites == one.cites;
+        if calls.iter().find(same).is_none() {
+            return Err(format!(
+                "{}::{}::{} promises what no public call of that name does",
+                one.krate, one.file, one.name
+            ));
+        }
+    }
+    Ok(())
 }

@@ -1,5 +1,5 @@
 //! What the words of a text mean, by the imports of its file. A thing is known by its whole path, with the crate first:
-//! `rules.specs.Good.listVerdict`.
+//! `rules.specs.Good.list_verdict`.
 
 use std::collections::HashMap;
 
@@ -28,28 +28,30 @@ impl Scope {
         scope
     }
 
-    /// An operator, as `_then_`, stands in a text without its two places.
+    /// An operator, as `◌then◌`, stands in a text without its two places.
     pub fn bind(&mut self, name: &str, path: String) {
-        self.names.insert(name.trim_matches('_').to_string(), path);
+        self.names.insert(name.trim_matches('◌').to_string(), path);
     }
 
-    /// The paths of the words of a text. `.field` is a part of a value and has none; `x.` is x, which a λ binds.
+    /// The paths of the words of a text. `(..).field` is a part of a value and has none; `x.` is x, which a λ binds.
     pub fn paths(&self, text: &str) -> Vec<String> {
-        let parts = text.split(|c: char| c.is_whitespace() || "(){}⌜⌝,;λ".contains(c));
+        let parts = text.split(|c: char| c.is_whitespace() || "(){}[],;λ".contains(c));
         parts.filter_map(|part| self.path(part.trim_end_matches('.'))).collect()
     }
 
+    /// In `a.b` the first word is a module, or a value of which `.b` is a part.
     fn path(&self, word: &str) -> Option<String> {
-        if let Some(path) = self.names.get(word) {
-            return Some(path.clone());
+        let (first, rest) = word.split_once('.').unwrap_or((word, ""));
+        if let Some(module) = self.modules.get(first).filter(|_| !rest.is_empty()) {
+            return Some(format!("{module}.{rest}"));
         }
-        let (module, rest) = word.split_once('.')?;
-        Some(format!("{}.{rest}", self.modules.get(module)?))
+        self.names.get(first).cloned()
     }
 
     /// A parameter hides an import.
-    pub fn hide(&mut self, name: &str) -> Option<String> {
-        self.names.remove(name)
+    pub fn hide(&mut self, name: &str) {
+        self.names.remove(name);
+        self.modules.remove(name);
     }
 }
 
@@ -58,7 +60,7 @@ fn renamed(name: &str) -> (&str, &str) {
     name.split_once(" as ").unwrap_or((name, name))
 }
 
-/// `Rattle·rules·specs.specs.Good` and `Rattle·rules.specs.Good` are one module, `rules.specs.Good`.
+/// `Rattle.rules.specs.Good` is the module `rules.specs.Good`.
 fn whole(module: &str) -> String {
-    module.trim_start_matches("Rattle·").replace("·specs.", ".").replace("·proofs.", ".")
+    module.trim_start_matches("Rattle.").to_string()
 }

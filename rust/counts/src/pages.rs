@@ -7,7 +7,7 @@ use std::collections::BTreeMap;
 
 use crate::code::Function;
 use crate::counts::{Counts, BELIEVED, COLUMNS};
-use crate::guards::{LEDGER, VECTORS};
+use crate::guards::{self, LEDGER, VECTORS};
 
 const END: &str = "<!-- end of counted -->";
 
@@ -132,10 +132,13 @@ pub fn calls(counts: &Counts) -> String {
     table(&["Call", "Its code", "Its contract cites"], rows)
 }
 
-/// AUDITOR: the functions that no contract fixes: those that call the system, and the `main` of each program.
+/// AUDITOR: the functions that no contract fixes: those of the ledger that call the system, or have no contract, and
+/// the `main` of each program.
 pub fn programs(counts: &Counts) -> String {
+    let asking = guards::asking(&counts.functions);
+    let of_ledger = |one: &Function| asking.contains(&one.name.as_str()) || !one.ensures;
     let left = |one: &&Function| {
-        (one.krate == LEDGER && one.asks_system()) || (counts.is_served(&one.krate) && one.name == "main")
+        (one.krate == LEDGER && of_ledger(one)) || (counts.is_served(&one.krate) && one.name == "main")
     };
     let left: Vec<_> = counts.functions.iter().filter(left).collect();
     let rows = left.chunk_by(|a, b| (&a.krate, &a.file) == (&b.krate, &b.file)).map(|same| {

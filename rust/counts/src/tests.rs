@@ -10,9 +10,9 @@ use crate::tree::Crate;
 /// private one `step`.
 const SPECS: &str = "\
 -- A comment.
-use lib.Dec.{leb}
-use Rattle·low.specs.declared.code.Answer.the-variants as answer
-infixr 20 _then_
+use Rattle.std.specs.Prelude.{ℕ, ◌≡◌}
+use Rattle.low.specs.declared.code.Answer.TheVariants as answer
+infixr 20 ◌then◌
 
 abbrev pub low : ℕ
 low = 1
@@ -24,7 +24,7 @@ pub data Kept (n : ℕ) : Type 0 where
   lost : Kept n
 
 module _ (F : ℕ) where
-  unfoldable pub _then_ : ℕ → ℕ
+  unfoldable pub ◌then◌ : ℕ → ℕ
   answer.Yes then w = w
 
 abbrev pub high : ℕ
@@ -39,9 +39,10 @@ step = other
 
 const CODE: &str = "\
 use std::num;
-ghost use Rattle·low·specs.specs.Words.{kept, low, other, step};
+ghost use Rattle.low.specs.Words.{kept, low, high, other, step};
 
 // A comment.
+#[derive(Clone, Copy)]
 pub enum Answer {
     Yes,
 }
@@ -49,21 +50,22 @@ pub enum Answer {
 pub fn call(
     low: u32,
 ) -> Answer
-    ensures { λ r. ⌜ kept low ≡
-        r ⌝ }
+    ensures high { kept low.now ≡ {
+        result } }
 {
     Answer::Yes
 }
 
+#[unsafe(no_mangle)]
 pub fn more() -> u32
-    ensures { λ r. ⌜ r ≡ other ⌝ }
+    ensures { result ≡ other.size }
 {
     1
 }
 
 fn private(n: u32)
-    requires { ⌜ n ≡ step ⌝ }
-    ensures { λ r. ⌜ r ≡ 1 ⌝ }
+    requires { n ≡ step }
+    ensures { result ≡ 1 }
 {
 }
 
@@ -73,15 +75,15 @@ pub(crate) fn said() {
 ";
 
 const CLAIMS: &str = "\
-use Rattle·low.specs as low
-use Rattle·low.proofs as in-low
+use Rattle.low.specs as low
+use Rattle.low.proofs as in_low
 
 abbrev pub Code : Type 1
-Code = in-low.code.call.Statement.statement M × low.Words.high
+Code = in_low.code.call.Statement.statement M × low.Words.high
 ";
 
 const CALLS: &str = "\
-use Rattle·low.specs as low
+use Rattle.low.specs as low
 
 pub record Calls : Type 0 where
   pub call : Fixes low.Words.Kept
@@ -91,11 +93,11 @@ fn tree(claims: &str) -> Vec<Crate> {
     let file = |name: &str, text: &str| BTreeMap::from([(name.to_string(), text.to_string())]);
     let low = Crate {
         name: "low".to_string(),
-        needs: vec!["facts".to_string()],
         specs: file("Words", SPECS),
         code: file("code", CODE),
-        proofs: file("code/call/Proof", "-- Why.\n\nyes = no\n"),
+        proofs: file("code/call/Answers", "-- Why.\n\nyes = no\n"),
         edits: file("call.no", ""),
+        ..Crate::default()
     };
     let specs = [file("Code", claims), file("Demand1", CALLS)].into_iter().flatten().collect();
     vec![low, Crate { name: "claims".to_string(), specs, ..Crate::default() }]
@@ -106,7 +108,7 @@ fn each_definition_counts_with_the_first_who_cites_it() {
     let counts = Counts::new(tree(CLAIMS)).unwrap();
     let found = counts.definitions.iter().zip(&counts.columns);
     let found: Vec<_> = found.map(|(one, column)| (one.name.as_str(), one.lines, *column)).collect();
-    let low = [("low", 2, 0), ("Kept", 4, 0), ("_then_", 2, 1), ("high", 2, 1), ("other", 2, 3), ("step", 2, 4)];
+    let low = [("low", 2, 0), ("Kept", 4, 0), ("◌then◌", 2, 1), ("high", 2, 1), ("other", 2, 3), ("step", 2, 4)];
     assert_eq!(found, [&low[..], &[("Answer", 3, 1), ("Code", 2, 1), ("Calls", 2, 1)]].concat());
 }
 
@@ -139,10 +141,38 @@ fn a_call_without_a_line_is_refused() {
 }
 
 #[test]
+fn a_static_library_promises_what_the_calls_do() {
+    let exported = |old: &str, new: &str| {
+        let mut crates = tree(CLAIMS);
+        let code = CODE.split("\n#[unsafe").next().unwrap();
+        let code = code.replace("pub fn call(\n    low: u32,\n)", "pub extern \"C\" fn call(low: u32)");
+        assert!(code.contains(old), "{old}");
+        let code = BTreeMap::from([("lib".to_string(), code.replace(old, new))]);
+        crates.push(Crate { name: "low_c".to_string(), is_static: true, code, ..Crate::default() });
+        Counts::new(crates)
+    };
+    let same = exported("low: u32", "low: u32").unwrap();
+    assert_eq!((same.functions.len(), same.public().count(), same.calls), (5, 3, vec![0]));
+    let others =
+        [("fn call", "fn more"), ("result }", "low.now }"), ("low: u32", "low: u64"), ("{kept", "{other as kept")];
+    for (old, new) in others {
+        let found = exported(old, new).err();
+        assert!(found.is_some_and(|found| found.ends_with(" promises what no public call of that name does")), "{new}");
+    }
+}
+
+#[test]
 fn a_public_function_that_asks_something_is_refused() {
     let mut crates = tree(CLAIMS);
     crates[0].code.insert("code".to_string(), CODE.replace("fn private", "pub fn private"));
     assert!(Counts::new(crates).is_err_and(|reason| reason.contains("low::code::private")));
+}
+
+#[test]
+fn a_public_function_that_promises_nothing_is_refused() {
+    let mut crates = tree(CLAIMS);
+    crates[0].code.insert("code".to_string(), CODE.replace("    ensures { result ≡ other.size }\n", ""));
+    assert!(Counts::new(crates).is_err_and(|reason| reason == "low::code::more is public and promises nothing"));
 }
 
 #[test]
@@ -156,32 +186,55 @@ fn a_line_of_no_definition_is_refused() {
     assert!(Counts::new(tree(&CLAIMS.replace("abbrev pub Code", "  pub Code"))).is_err());
 }
 
-/// A ledger with one function that asks the system and one that does not, and a program that begins it.
+/// A ledger with functions that ask the system, one of them through another one, and one that does not.
 const ASKS: &str = "\
-use libc::STDOUT_FILENO;
+use std::rt::HostRuntime;
+use std::io::{ErrorKind, Read};
 
-pub fn write_out(ledger: &mut u64, bytes: &[u8]) -> bool {
-    io::write_all(STDOUT_FILENO, bytes)
+pub struct Handle {
+    pub(crate) rt: HostRuntime,
 }
 
-pub fn standard_input() -> i32 {
-    pos::first(libc::STDIN_FILENO)
+impl Handle {
+    pub fn new(rt: HostRuntime) -> Handle {
+        Handle { rt }
+    }
+}
+
+pub fn write_out(ledger: &mut u64, handle: Handle, bytes: &[u8]) -> bool
+    ensures { result ≡ result }
+{
+    *ledger = one_more(*ledger, bytes.len());
+    is_written(handle, bytes)
+}
+
+fn is_written(handle: Handle, bytes: &[u8]) -> bool {
+    handle.rt.write_all(bytes).is_ok()
+}
+
+pub fn one_more(ledger: u64, bytes: usize) -> u64
+    ensures { result ≡ result }
+{
+    std::num::wrapping_add_u64(ledger, bytes as u64)
 }
 ";
 
 const PROGRAM: &str = "\
-ghost use Rattle·low.specs.Words.{step};
+ghost use Rattle.low.specs.Words.{step};
 
-fn main() {
+use ledger::handle::Handle;
+
+fn main(rt: HostRuntime) {
     let mut ledger = 0u64;
-    run(&mut ledger);
+    run(&mut ledger, Handle::new(rt));
 }
 
-fn run(ledger: &mut u64) -> bool
-    ensures { λ r. ⌜ r ≡ step ⌝ }
+fn run(ledger: &mut u64, handle: Handle) -> bool
+    ensures { result ≡ step }
 {
     ledger::output::write_out(
         ledger,
+        handle,
         b\"yes\",
     )
 }
@@ -196,13 +249,18 @@ fn guarded(krate: &str, file: &str, text: &str) -> Result<Counts, String> {
     };
     let mut crates = tree(CLAIMS);
     crates.extend([code("ledger", "output", ASKS), code("program", "main", PROGRAM)]);
-    crates[2].needs = vec!["libc".to_string()];
     crates[3].needs = vec!["ledger".to_string()];
-    crates[2].proofs.insert("output/write_out/Proof".to_string(), "returns = enter-is".to_string());
+    crates[2].proofs.insert("output/write_out/Answers".to_string(), "returns c = enter_is _".to_string());
     let changed = crates.iter_mut().find(|one| one.name == krate).unwrap();
     let files = if file.starts_with("proofs/") { &mut changed.proofs } else { &mut changed.code };
     files.insert(file.to_string(), text.to_string());
     Counts::new(crates)
+}
+
+/// A file of the crate is refused for this reason.
+fn refused(krate: &str, file: &str, text: &str, reason: &str) {
+    let found = guarded(krate, file, text).err();
+    assert!(found.as_ref().is_some_and(|found| found.contains(reason)), "{text}: {found:?}");
 }
 
 #[test]
@@ -210,16 +268,68 @@ fn only_the_ledger_may_ask_the_system() {
     let mut crates = tree(CLAIMS);
     crates[0].needs.push("os".to_string());
     assert!(Counts::new(crates).is_err_and(|reason| reason.starts_with("crates.txt lets low name os,")));
-    let declared = guarded("low", "more", "extern \"C\" {\n    fn write();\n}\n");
-    assert!(declared.is_err_and(|reason| reason.starts_with("crates/low/src declares functions of C")));
-    let imported = guarded("ledger", "output", &ASKS.replace("libc::STDOUT_FILENO;", "libc::read;"));
-    assert!(imported.is_err_and(|reason| reason.contains("the import `use libc::read;`")));
+    refused("low", "more", "extern \"C\" {\n    fn write();\n}\n", "crates/low/src declares functions of C");
+    refused("low", "more", "unsafe extern \"C\" {\n    fn write();\n}\n", "crates/low/src declares functions of C");
+    refused("low", "more", "fn no() {\n    unsafe { *at }\n}\n", "crates/low/src has unsafe code");
+    refused("low", "more", "fn no() {\n    println!(rt; \"no\");\n}\n", "crates/low/src has the macro `println!(rt;");
+    refused("low", "more", "macro_rules! no {\n}\n", "crates/low/src has the macro `macro_rules!");
+    for module in ["fs", "io", "env", "rt", "os", "process", "net", "thread", "time", "ptr", "number"] {
+        refused("low", "more", &format!("use std::{module}::what;\n"), "and only ledger may ask the system by std");
+        refused(
+            "program",
+            "more",
+            &format!("fn f() {{\n    std::{module}::g();\n}}\n"),
+            "only ledger may ask the system",
+        );
+    }
+    refused("low", "more", "use std::{fs, num};\n", "and only ledger may ask the system by std");
+    refused("low", "more", "use core::rt;\n", "and only ledger may ask the system by std");
+    refused("low", "more", "fn f(h: Handle) {\n    h.rt.stdin();\n}\n", "and only ledger may open a handle");
+    assert!(guarded("low", "more", "// By `std::fs`, as the file `check.rt` does.\nfn f() {}\n").is_ok());
+}
+
+#[test]
+fn the_ledger_asks_in_ways_that_are_known() {
+    let says = |old: &str, new: &str, reason: &str| {
+        assert!(ASKS.contains(old), "{old}");
+        refused("ledger", "output", &ASKS.replace(old, new), reason);
+    };
+    says("{ErrorKind, Read};", "{ErrorKind, Write};", "ledger has `use std::io::{ErrorKind, Write};`");
+    says("io::{ErrorKind, Read};", "fs::read;", "ledger has `use std::fs::read;`");
+    says("    handle.rt", "    std::fs::read(b\"no\");\n    handle.rt", "ledger has `std::fs::read(b\"no\");`");
+    says("pub(crate) rt", "pub rt", "ledger has `pub rt: HostRuntime,`");
+    refused(
+        "ledger",
+        "more",
+        "pub fn of(handle: Handle) -> HostRuntime {\n    handle.rt\n}\n",
+        "ledger has `pub fn of",
+    );
+}
+
+#[test]
+fn only_a_main_is_given_the_system_and_gives_it_to_the_ledger() {
+    let says = |old: &str, new: &str| {
+        assert!(PROGRAM.contains(old), "{old}");
+        refused(
+            "program",
+            "main",
+            &PROGRAM.replace(old, new),
+            "the main of program must be `fn main(rt: HostRuntime) {`",
+        );
+    };
+    says("run(&mut ledger, Handle::new(rt))", "run(&mut ledger, other(rt))");
+    says("    run(", "    other(rt);\n    run(");
+    says("    run(", "    let other = rt;\n    run(");
+    says("use ledger::handle::Handle;", "use low::handle::Handle;");
+    says("fn main(rt: HostRuntime)", "fn main(it: HostRuntime)");
+    says("fn run(", "fn other(rt: HostRuntime) {}\n\nfn run(");
+    says("fn run(", "fn other(rt: LibcRuntime) {}\n\nfn run(");
+    refused("low", "more", "pub fn other(rt: HostRuntime) {}\n", "only a main is given the system");
 }
 
 #[test]
 fn only_the_ledger_may_open_it() {
-    let opened = guarded("low", "proofs/Other", "same = enter-is _");
-    assert!(opened.is_err_and(|reason| reason.contains("Other names enter-is")));
+    refused("low", "proofs/Other", "same = enter_is _", "Other names enter_is");
 }
 
 #[test]
@@ -237,6 +347,14 @@ fn the_ledger_is_only_handed_on() {
         assert!(found.is_some_and(|found| found.starts_with(reason)), "{new}");
     };
     says("  ledger,", "  &mut other,", "program::main::run hands write_out something else than `ledger`");
+    says("  ledger,", "  &mut ledger,", "program::main::run hands write_out something else than `ledger`");
+    says("    run(&mut ledger", "    run(&mut other", "program::main::main hands run something else than `ledger`");
+    says(
+        "    run(",
+        "    replace(&mut ledger, 0);\n    run(",
+        "program::main::main does something else with the ledger",
+    );
+    says("    ledger::", "    let say = write_out;\n    ledger::", "program::main::run names write_out, which takes");
     says("    ledger::", "    *ledger = 0;\n    ledger::", "program::main::run does something else with the ledger");
     says("    ledger::", "    let other = ledger;\n    ledger::", "program::main::run does something else");
     says("    ledger::", "    replace(ledger, 0);\n    ledger::", "program::main::run does something else");
@@ -248,9 +366,10 @@ fn the_ledger_is_only_handed_on() {
 #[test]
 fn what_asks_the_system_and_what_a_run_promises_is_to_be_read() {
     let counts = guarded("program", "main", PROGRAM).unwrap();
-    let rows = "| `ledger/src/output.rt` | `write_out` | 3 |\n| `program/src/main.rt` | `main` | 4 |\n";
+    let rows =
+        "| `ledger/src/output.rt` | `new`, `write_out`, `is_written` | 12 |\n| `program/src/main.rt` | `main` | 4 |\n";
     assert_eq!(counts.columns[..6], [0, 0, 1, 1, 2, 2]);
-    assert!(pages::programs(&counts).ends_with(&format!("{rows}| together | | 7 of 18 |\n")));
+    assert!(pages::programs(&counts).ends_with(&format!("{rows}| together | | 16 of 35 |\n")));
 }
 
 #[test]

@@ -5,13 +5,15 @@ use std::fs;
 use std::io;
 use std::path::Path;
 
-/// The texts of a folder's files, by their names without the ending: `Words`, or `line/line_all/Proof`.
+/// The texts of a folder's files, by their names without the ending: `Words`, or `line/line_all/Answers`.
 pub type Files = BTreeMap<String, String>;
 
 /// A crate that `crates.txt` lists.
 #[derive(Default)]
 pub struct Crate {
     pub name: String,
+    /// Whether it is a static library, on which no crate can stand.
+    pub is_static: bool,
     /// The crates that `crates.txt` lets it name.
     pub needs: Vec<String>,
     pub specs: Files,
@@ -34,10 +36,13 @@ impl Crate {
 pub fn read(root: &Path) -> io::Result<Vec<Crate>> {
     let listed = fs::read_to_string(root.join("crates.txt"))?;
     let named = listed.lines().filter(|line| !line.starts_with('#')).filter_map(|line| line.split_once(':'));
-    let crates = named.map(|(name, needs)| {
+    let crates = named.map(|(head, needs)| {
+        // The name, and then what `rt` is to make of the crate.
+        let (name, kind) = head.split_once(' ').unwrap_or((head, ""));
         let folder = root.join("crates").join(name);
         Ok(Crate {
             name: name.to_string(),
+            is_static: kind.split(' ').any(|word| word == "staticlib"),
             needs: needs.split_whitespace().map(str::to_string).collect(),
             specs: files(&folder.join("specs"), ".antt")?,
             code: files(&folder.join("src"), ".rt")?,

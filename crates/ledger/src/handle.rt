@@ -1,4 +1,6 @@
 // What the system is asked by. `main` gives its runtime away in it, and no other crate can take that out again.
+ghost use Rattle.std.specs.Prelude.{◌≡◌};
+
 use std::rt::HostRuntime;
 
 #[derive(Clone, Copy)]
@@ -7,7 +9,9 @@ pub struct Handle {
 }
 
 impl Handle {
-    pub fn new(rt: HostRuntime) -> Handle {
+    pub fn new(rt: HostRuntime) -> Handle
+        ensures { result ≡ record { rt = rt } }
+    {
         Handle { rt }
     }
 }

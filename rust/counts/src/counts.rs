@@ -3,7 +3,7 @@
 use std::collections::{HashMap, HashSet};
 
 use crate::code::{self, Function};
-use crate::guards::{self, LEDGER, VECTORS};
+use crate::guards::{self, VECTORS};
 use crate::names::Scope;
 use crate::specs::{self, Definition};
 use crate::tree::Crate;
@@ -48,8 +48,7 @@ impl Counts {
         if let Some(one) = counts.public().find(|one| one.requires) {
             return Err(format!("{}::{}::{} is public and has a requires", one.krate, one.file, one.name));
         }
-        // The ledger's handle holds what a main is given, of which no contract can say anything.
-        if let Some(one) = counts.public().find(|one| !one.ensures && (&*one.krate, &*one.name) != (LEDGER, "new")) {
+        if let Some(one) = counts.public().find(|one| !one.ensures) {
             return Err(format!("{}::{}::{} is public and promises nothing", one.krate, one.file, one.name));
         }
         Ok(counts)

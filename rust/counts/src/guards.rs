@@ -21,7 +21,7 @@ const HANDLE: &str = "use ledger::handle::Handle;";
 
 /// The lines of the ledger that name it.
 const KEPT: [&str; 3] =
-    ["use std::rt::HostRuntime;", "pub(crate) rt: HostRuntime,", "pub fn new(rt: HostRuntime) -> Handle {"];
+    ["use std::rt::HostRuntime;", "pub(crate) rt: HostRuntime,", "pub fn new(rt: HostRuntime) -> Handle"];
 
 /// What the ledger may import of std. So a call of the system is written in one of the ways below it.
 const IMPORTS: [&str; 10] = [

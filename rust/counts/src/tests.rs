@@ -196,7 +196,9 @@ pub struct Handle {
 }
 
 impl Handle {
-    pub fn new(rt: HostRuntime) -> Handle {
+    pub fn new(rt: HostRuntime) -> Handle
+        ensures { result ≡ record { rt = rt } }
+    {
         Handle { rt }
     }
 }
@@ -366,10 +368,9 @@ fn the_ledger_is_only_handed_on() {
 #[test]
 fn what_asks_the_system_and_what_a_run_promises_is_to_be_read() {
     let counts = guarded("program", "main", PROGRAM).unwrap();
-    let rows =
-        "| `ledger/src/output.rt` | `new`, `write_out`, `is_written` | 12 |\n| `program/src/main.rt` | `main` | 4 |\n";
+    let rows = "| `ledger/src/output.rt` | `write_out`, `is_written` | 9 |\n| `program/src/main.rt` | `main` | 4 |\n";
     assert_eq!(counts.columns[..6], [0, 0, 1, 1, 2, 2]);
-    assert!(pages::programs(&counts).ends_with(&format!("{rows}| together | | 16 of 35 |\n")));
+    assert!(pages::programs(&counts).ends_with(&format!("{rows}| together | | 13 of 37 |\n")));
 }
 
 #[test]

@@ -1,19 +1,22 @@
 -- What the calls answer, from what growing a good list's tree leaves: the build, and a step.
-use Prim.Native.Nat.{ℕ, ◌+◌, ◌≤◌, min}
+use Rattle.std.specs.Prelude.{Err, Result}
+use Rattle.builder.specs.declared.step.Step.{Step}
+use Rattle.builder.specs.declared.grow.Grown.{Grown}
+use Rattle.builder.specs.declared.build.Size.{Size}
+use Prim.Native.Nat.{ℕ, ◌+◌, min}
 use native.Mathlib.Nat.{zero-add}
 use native.Mathlib.Omega.{arith}
 use mathlib.Core.Path.{◌≡◌, refl}
 use mathlib.Core.List.{List, []}
 use Rattle.refusals.specs.declared.Refusal.{Refusal}
-use Rattle.refusals.specs.declared.Verdict.{Verdict}
-use Rattle.refusals.specs.declared.Verdict.TheVariants.{Fine, Refused}
+use Rattle.refusals.specs.Verdict.{Verdict}
+use Rattle.refusals.specs.Verdict.{Fine, Refused}
 use Rattle.fields.specs.Words.{field_count}
 use Rattle.fields.specs.Boxes.{root_box}
 use Rattle.rules.specs.Words.{rule_count}
 use Rattle.rules.specs.Good.{list_verdict}
-use Rattle.trees.specs.Words.{most_nodes, node_count}
+use Rattle.trees.specs.Words.{node_count}
 use Rattle.trees.specs.Spelt.{Spelt}
-use Rattle.trees.proofs.Sizes.{sizes_fine_iff}
 use Rattle.tree_check.specs.Whole.{most_cuts}
 use Rattle.tree_check.specs.PartCheck.{so_far_verdict}
 use Rattle.tree_check.proofs.PartStages.{part_taken}
@@ -24,11 +27,6 @@ use Rattle.built.specs.Stops.{up_to}
 use Rattle.built.specs.BuiltTree.{built_tree, build_verdict}
 use Rattle.built.proofs.FullTrees.{Full, grown_full, on_full}
 use Rattle.built.proofs.FromStop.{from_nothing}
-use Rattle.builder.specs.declared.build.Built.{Built}
-use Rattle.builder.specs.declared.build.Built.TheVariants as built
-use Rattle.builder.specs.declared.step.Step.{Step}
-use Rattle.builder.specs.declared.step.Step.TheVariants as step
-use Rattle.builder.specs.declared.grow.Grown.{Grown}
 use Rattle.builder.specs.Build.{paper, TreeBuilt, step_paper, at_least_one, StepBuilt, SomeBuilt, OnBuilt}
 use Rattle.builder.specs.BuildSteps.{RootGrown, most_end, end_of}
 use Rattle.builder.specs.Answers.{built_of, step_of}
@@ -38,12 +36,12 @@ use Rattle.builder.proofs.StepAnswers.{stored, judged_refused, judged_fine, late
 
 module _ {u : Verdict} (e : ℕ) (t : Tree) {nodes pool : List ℕ} where
   -- what is refused before is not built, and both outputs are as found
-  pub step_refuses : {why : Refusal} → u ≡ Refused why → StepBuilt u e t nodes pool (step.Refused why) nodes pool
+  pub step_refuses : {why : Refusal} → u ≡ Refused why → StepBuilt u e t nodes pool (Err why) nodes pool
   step_refuses q = judged_refused _ (up_to e t 0) q refl
 
   -- what is fine before is built as far as the step goes
   pub step_built :
-      {nodes' pool' : List ℕ} {g : Grown} {r : Step} → u ≡ Fine → Full t →
+      {nodes' pool' : List ℕ} {g : Result Grown Refusal} {r : Result Step Refusal} → u ≡ Fine → Full t →
       RootGrown (up_to (min e most_end) t 0) nodes pool g nodes' pool' → r ≡ step_of g →
       StepBuilt u e t nodes pool r nodes' pool'
   step_built q full w s =
@@ -59,14 +57,14 @@ module _ (rs : List ℕ) where
   -- a list that is refused is not built, and both outputs are as found
   pub list_refuses :
       {nodes pool : List ℕ} {why : Refusal} → list_verdict rs ≡ Refused why →
-      TreeBuilt rs nodes pool (built.Refused why) nodes pool
+      TreeBuilt rs nodes pool (Err why) nodes pool
   unfolding build_verdict
   list_refuses q = judged_refused _ (built_tree rs) q refl
 
-  module _ {nodes pool nodes' pool' : List ℕ} {g : Grown} where
+  module _ {nodes pool nodes' pool' : List ℕ} {g : Result Grown Refusal} where
     -- of a good list the whole tree is built
     pub list_built :
-        {r : Built} → list_verdict rs ≡ Fine →
+        {r : Result Size Refusal} → list_verdict rs ≡ Fine →
         RootGrown (up_to most_end (tree_on (boxes_of rs) [] []) 0) nodes pool g nodes' pool' → r ≡ built_of g →
         TreeBuilt rs nodes pool r nodes' pool'
     unfolding build_verdict
@@ -77,7 +75,7 @@ module _ (rs : List ℕ) where
 
     -- of a good list so many nodes are built
     pub some_built :
-        (most : ℕ) {r : Step} → list_verdict rs ≡ Fine →
+        (most : ℕ) {r : Result Step Refusal} → list_verdict rs ≡ Fine →
         RootGrown (up_to (end_of 0 most) (tree_on (boxes_of rs) [] []) 0) nodes pool g nodes' pool' → r ≡ step_of g →
         SomeBuilt rs most nodes pool r nodes' pool'
     unfolding end_of
@@ -91,15 +89,9 @@ module _ (rs : List ℕ) (n : ℕ) (part kept : List ℕ) (fine : so_far_verdict
   pub part_good : (list_verdict rs ≡ Fine) × Spelt (rule_count rs) part kept
   part_good = let t = (part_taken rs n part kept fine).2 in (t.list, t.spelt)
 
-  -- it has no more nodes than a tree
-  pub part_few : node_count part ≤ most_nodes
-  part_few =
-      let t = (part_taken rs n part kept fine).2 in
-      omega (arith, ((sizes_fine_iff part kept).0 t.sizes).few_nodes)
-
   -- so many nodes more are built of what is grown from it
   pub on_built :
-      (most : ℕ) {nodes pool nodes' pool' : List ℕ} {g : Grown} {r : Step} →
+      (most : ℕ) {nodes pool nodes' pool' : List ℕ} {g : Result Grown Refusal} {r : Result Step Refusal} →
       RootGrown (up_to (end_of (node_count part) most) (tree_on (boxes_of rs) part kept) 0) nodes pool g nodes' pool' →
       r ≡ step_of g → OnBuilt rs n part kept most nodes pool r nodes' pool'
   unfolding end_of

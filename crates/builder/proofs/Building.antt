@@ -1,4 +1,7 @@
 -- Growing from the root into words of its own: a refusal stores nothing, and what fits is stored.
+use Rattle.std.specs.Prelude.{Err, Result}
+use Rattle.builder.specs.declared.grow.Grown.{Grown}
+use Rattle.builder.specs.Said.{Grows}
 use Prim.Native.Nat.{ℕ, ◌*◌, ◌≤◌}
 use native.Mathlib.Nat.{min-le_left, min-le_right}
 use native.Mathlib.Omega.{arith}
@@ -10,7 +13,7 @@ use lib.Seq.{sets, length-take-le}
 use Rattle.facts.proofs.Sets.{sets_front}
 use Rattle.facts.proofs.Setting.{written_front}
 use Rattle.refusals.specs.declared.Refusal.{Refusal}
-use Rattle.refusals.specs.declared.Verdict.TheVariants.{Fine}
+use Rattle.refusals.specs.Verdict.{Fine}
 use Rattle.refusals.proofs.Order.{leaving_refused, leaving_fine}
 use Rattle.rules.specs.Words.{most_rules, rule_count, largest_action}
 use Rattle.rules.proofs.Lists.{GoodRules}
@@ -22,8 +25,6 @@ use Rattle.built.specs.Stops.{up_to, last_open}
 use Rattle.built.specs.BuiltTree.{tree_fits}
 use Rattle.built.proofs.Laying.{length_laid}
 use Rattle.built.proofs.Accepting.{tree_fits_iff}
-use Rattle.builder.specs.declared.grow.Grown.{Grown}
-use Rattle.builder.specs.declared.grow.Grown.TheVariants as grown
 use Rattle.builder.specs.declared.grow.Room.{Room}
 use Rattle.builder.specs.BoxWords.{box_words, box_count}
 use Rattle.builder.specs.Growing.{GrownPart}
@@ -54,7 +55,7 @@ stored_front : (l xs : List ℕ) (n : ℕ) → length xs ≡ n → n ≤ length 
 stored_front l xs n e h = rw (sets_front l xs (omega arith)) (written_front xs l n e)
 
 module _ (all : Tree) (nodes pool : List ℕ) {room : Room} {end : ℕ}
-    (e : room ≡ room_of (length nodes) (length pool) end) {found held words list : List ℕ} {r : Grown}
+    (e : room ≡ room_of (length nodes) (length pool) end) {found held words list : List ℕ} {r : Result Grown Refusal}
     (w : GrownPart (up_to room.end all 0) root_spot room found held r words list) where
   -- what is grown
   t : Tree
@@ -66,8 +67,8 @@ module _ (all : Tree) (nodes pool : List ℕ) {room : Room} {end : ℕ}
 
   -- what is refused there is refused, and both outputs are as found
   pub root_refuses :
-      {why : Refusal} {nodes' pool' : List ℕ} → r ≡ grown.Refused why → nodes' ≡ nodes → pool' ≡ pool →
-      RootGrown (up_to end all 0) nodes pool (grown.Refused why) nodes' pool'
+      {why : Refusal} {nodes' pool' : List ℕ} → r ≡ Err why → nodes' ≡ nodes → pool' ≡ pool →
+      RootGrown (up_to end all 0) nodes pool (Err why) nodes' pool'
   unfolding t
   root_refuses {why} q x y =
       let v = refused_says within q in
@@ -77,7 +78,7 @@ module _ (all : Tree) (nodes pool : List ℕ) {room : Room} {end : ℕ}
         pool_left = y ∙ sym (leaving_refused _ _ v);
       }
 
-  module _ {next entries : ℕ} {o : Bool} (q : r ≡ grown.Part next entries o) where
+  module _ {next entries : ℕ} {o : Bool} (q : r ≡ Grows next entries o) where
     fine : tree_fits t (length nodes) (length pool) ≡ Fine
     fine = (part_says within q).0
 
@@ -105,7 +106,7 @@ module _ (all : Tree) (nodes pool : List ℕ) {room : Room} {end : ℕ}
     pub root_stored :
         {nodes' pool' : List ℕ} → most_nodes * node_words ≤ length found → most_pool ≤ length held →
         nodes' ≡ sets nodes 0 (take (next * node_words) words) → pool' ≡ sets pool 0 (take entries list) →
-        RootGrown (up_to end all 0) nodes pool (grown.Part next entries o) nodes' pool'
+        RootGrown (up_to end all 0) nodes pool (Grows next entries o) nodes' pool'
     unfolding t
     root_stored f h x y =
         let long : length (laid t 0 0) ≡ next * node_words = omega (arith, length_laid t 0 0, counted.0) in

@@ -1,5 +1,7 @@
 -- What the build's promise tells of its answers: a tree is the list's own, it may serve, and it is one whatever the
 -- room; and when it is refused.
+use Rattle.std.specs.Prelude.{Err}
+use Rattle.builder.specs.Said.{BuiltTree}
 use Prim.Native.Nat.{ℕ, ◌*◌, ◌≤◌, min}
 use native.Mathlib.Nat.{min-le_left, min-le_right, le-min}
 use native.Mathlib.Omega.{arith}
@@ -10,7 +12,7 @@ use lib.ListN.{length, take}
 use Rattle.facts.specs.Lists.{written}
 use Rattle.facts.proofs.Setting.{written_front}
 use Rattle.refusals.specs.declared.Refusal.{Refusal}
-use Rattle.refusals.specs.declared.Verdict.TheVariants as verdict
+use Rattle.refusals.specs.Verdict as verdict
 use Rattle.refusals.proofs.Promises.{said_by, fine_by, refused_by, left_written, writes_fine, writes_refused}
 use Rattle.rules.specs.Good.{list_verdict}
 use Rattle.trees.specs.Words.{node_words, most_nodes, most_pool}
@@ -21,11 +23,10 @@ use Rattle.built.specs.FirstUnfit.{FirstUnfit}
 use Rattle.built.proofs.Laying.{length_laid}
 use Rattle.built.proofs.BuiltAccepted.{build_fine_iff, built_serves}
 use Rattle.built.proofs.FirstUnfit.{build_refused_iff}
-use Rattle.builder.specs.declared.build.Built.TheVariants.{Refused, Tree}
 use Rattle.builder.specs.Build.{built_values, TreeBuilt}
 
 module _ (rs : List ℕ) {nodes pool : List ℕ} {n p : ℕ} {nodes' pool' : List ℕ}
-    (w : TreeBuilt rs nodes pool (Tree n p) nodes' pool') where
+    (w : TreeBuilt rs nodes pool (BuiltTree n p) nodes' pool') where
   told : (build_verdict rs (length nodes) (length pool) ≡ verdict.Fine) × (n ∷ p ∷ [] ≡ built_values rs)
   told = fine_by (said_by w.0) refl
 
@@ -55,8 +56,8 @@ module _ (rs : List ℕ) {nodes pool : List ℕ} {n p : ℕ} {nodes' pool' : Lis
 
 -- a list whose tree is built twice, whatever the rooms, gives the same counts and the same words
 pub one_tree :
-    (rs : List ℕ) {ns es us vs : List ℕ} {n p m q : ℕ} {x y z w : List ℕ} → TreeBuilt rs ns es (Tree n p) x y →
-    TreeBuilt rs us vs (Tree m q) z w →
+    (rs : List ℕ) {ns es us vs : List ℕ} {n p m q : ℕ} {x y z w : List ℕ} → TreeBuilt rs ns es (BuiltTree n p) x y →
+    TreeBuilt rs us vs (BuiltTree m q) z w →
     (n ≡ m) × (p ≡ q) × (take (n * node_words) x ≡ take (m * node_words) z) × (take p y ≡ take q w)
 one_tree rs a b = (
   (tree_counts rs a).0 ∙ sym (tree_counts rs b).0,
@@ -68,7 +69,7 @@ one_tree rs a b = (
 module _ (rs nodes pool : List ℕ) where
   -- the build answers a tree
   abbrev pub Completes : Type 0
-  Completes = (n : ℕ) × (p : ℕ) × (x : List ℕ) × (y : List ℕ) × TreeBuilt rs nodes pool (Tree n p) x y
+  Completes = (n : ℕ) × (p : ℕ) × (x : List ℕ) × (y : List ℕ) × TreeBuilt rs nodes pool (BuiltTree n p) x y
 
   -- it does exactly where the list is good, and its tree's words fit in what is lent and in the limits of a tree
   pub completes_iff :
@@ -107,7 +108,7 @@ module _ (rs nodes pool : List ℕ) where
   -- of a good list it says 4 exactly at the first node that does not fit, with what is wanted there
   pub short_iff :
       (why : Refusal) → list_verdict rs ≡ verdict.Fine →
-      TreeBuilt rs nodes pool (Refused why) nodes pool ↔
+      TreeBuilt rs nodes pool (Err why) nodes pool ↔
       FirstUnfit (built_nodes rs) (min (length nodes) (most_nodes * node_words)) (min (length pool) most_pool) why
   short_iff why good = (
     λ w. (build_refused_iff rs (length nodes) (length pool) why good).0 (refused_by (said_by w.0) refl),

@@ -1,4 +1,7 @@
 -- The tree of a part, by what its node is: the choice of the code says what stands in the definition.
+use Rattle.trees.specs.declared.words.Node.{Node}
+use Rattle.trees.specs.Standing.{Cut, Leaf, Missing}
+use Rattle.std.specs.Prelude.{Option}
 use Prim.Native.Nat.{ℕ, zero, suc, ◌+◌, ◌-◌, ◌<◌}
 use native.Mathlib.Omega.{arith}
 use mathlib.Core.Bool.{true, false, cond}
@@ -11,8 +14,6 @@ use borrow.Author.Tests.{ne_eqb}
 use Rattle.facts.proofs.Bools.{sure}
 use Rattle.fields.specs.Cuts.{left_part, right_part}
 use Rattle.fields.proofs.Cuts.{left_divided, right_divided}
-use Rattle.trees.specs.declared.words.Node.{Node}
-use Rattle.trees.specs.declared.words.Node.TheVariants as node
 use Rattle.trees.specs.Words.{entries}
 use Rattle.trees.specs.Node.{node_at}
 use Rattle.trees.proofs.Nodes.{missing_means, leaf_is, cut_is}
@@ -95,19 +96,19 @@ module _ (n : ℕ) (boxes : List (List (List ℕ))) (nodes pool : List ℕ) (b :
   tree_leaf k e = go k (node_at nodes i) refl e
     where
       go :
-          (k : ℕ) (x : Node) → node_at nodes i ≡ x → choice_in k (fresh_choice k n boxes b) x ≡ choice.Leaf →
+          (k : ℕ) (x : Option Node) → node_at nodes i ≡ x → choice_in k (fresh_choice k n boxes b) x ≡ choice.Leaf →
           grown_on k n boxes nodes pool b i ≡ leaf (meeting n boxes b)
-      go k node.Missing q t =
+      go k Missing q t =
           on_missing n boxes nodes pool b i k (missing_means nodes i q) ∙ fresh_leaf n boxes b k t
-      go k (node.Leaf s c) q t = let z : ◌≡◌ {A = ℕ} 0 1 = cc in absurd (omega arith)
-      go zero (node.Cut f v w) q t =
+      go k (Leaf s c) q t = let z : ◌≡◌ {A = ℕ} 0 1 = cc in absurd (omega arith)
+      go zero (Cut f v w) q t =
           let c = cut_is nodes i q in on_deep n boxes nodes pool b i c.there c.below_mark
-      go (suc k) (node.Cut f v w) q t =
+      go (suc k) (Cut f v w) q t =
           let c = sym t ∙ cut_stays k f v in let z : ◌≡◌ {A = ℕ} 0 1 = cc in absurd (omega arith)
 
   -- a leaf that stands has the entries that are kept
   pub tree_stands :
-      (k : ℕ) {start count : ℕ} → node_at nodes i ≡ node.Leaf start count →
+      (k : ℕ) {start count : ℕ} → node_at nodes i ≡ Leaf start count →
       grown_on k n boxes nodes pool b i ≡ leaf (take count (drop start pool))
   unfolding entries
   tree_stands k q =
@@ -125,12 +126,12 @@ module _ (n : ℕ) (boxes : List (List (List ℕ))) (nodes pool : List ℕ) (b :
   tree_cut k {f} {v} e = go k (node_at nodes i) refl e
     where
       go :
-          (k : ℕ) (x : Node) → node_at nodes i ≡ x → choice_in k (fresh_choice k n boxes b) x ≡ choice.Cut f v →
+          (k : ℕ) (x : Option Node) → node_at nodes i ≡ x → choice_in k (fresh_choice k n boxes b) x ≡ choice.Cut f v →
           (0 < k) ×
           (let x = grown_on (k - 1) n boxes nodes pool (left_part b f v) (i + 1) in
           grown_on k n boxes nodes pool b i ≡
           cut f v x (grown_on (k - 1) n boxes nodes pool (right_part b f v) (i + 1 + size x)))
-      go k node.Missing q t =
+      go k Missing q t =
           let past = missing_means nodes i q in
           let w = fresh_cut n boxes b k t in (
             w.0,
@@ -141,9 +142,9 @@ module _ (n : ℕ) (boxes : List (List (List ℕ))) (nodes pool : List ℕ) (b :
             )
                 (on_missing n boxes nodes pool b i k past ∙ w.1),
           )
-      go k (node.Leaf s c) q t = let z : ◌≡◌ {A = ℕ} 0 1 = cc in absurd (omega arith)
-      go zero (node.Cut g w child) q t = let z : ◌≡◌ {A = ℕ} 0 1 = cc in absurd (omega arith)
-      go (suc k) (node.Cut g w child) q t =
+      go k (Leaf s c) q t = let z : ◌≡◌ {A = ℕ} 0 1 = cc in absurd (omega arith)
+      go zero (Cut g w child) q t = let z : ◌≡◌ {A = ℕ} 0 1 = cc in absurd (omega arith)
+      go (suc k) (Cut g w child) q t =
           let c = cut_is nodes i q in
           let u = sym (cut_stays k g w) ∙ t in
           let field : g ≡ f = cc in

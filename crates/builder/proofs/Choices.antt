@@ -1,4 +1,7 @@
 -- What a node is, by the tests that the code makes: a node that does not stand yet, and one that does.
+use Rattle.trees.specs.declared.words.Node.{Node}
+use Rattle.trees.specs.Standing as at_node
+use Rattle.std.specs.Prelude.{Option}
 use Prim.Native.Nat.{ℕ, ◌≤◌, ◌<◌}
 use native.Mathlib.Omega.{arith}
 use mathlib.Core.Bool.{Bool, true, false, ◌||◌}
@@ -7,8 +10,6 @@ use mathlib.Core.List.{List}
 use lib.ListN.{length}
 use lib.Dec.{eqb}
 use borrow.Author.Tests.{le-leb, lt-leb, eq-eqb, ne_eqb}
-use Rattle.trees.specs.declared.words.Node.{Node}
-use Rattle.trees.specs.declared.words.Node.TheVariants as node
 use Rattle.trees.specs.Node.{node_at}
 use Rattle.built.specs.Boxes.{meeting}
 use Rattle.built.specs.CutValues.{cut_values, cut_count, chosen_field, chosen_value, most_in_leaf, stops}
@@ -71,21 +72,21 @@ module _ (k n : ℕ) (boxes : List (List (List ℕ))) (b : List (List ℕ)) wher
           cc
 
 module _
-    (k n : ℕ) (boxes : List (List (List ℕ))) (standing : List ℕ) (b : List (List ℕ)) (i : ℕ) {x : Node}
+    (k n : ℕ) (boxes : List (List (List ℕ))) (standing : List ℕ) (b : List (List ℕ)) (i : ℕ) {x : Option Node}
     (told : x ≡ node_at standing i)
   where
     -- a node that does not stand is fresh
-    pub choice_missing : x ≡ node.Missing → fresh_choice k n boxes b ≡ choice_of k n boxes standing b i
+    pub choice_missing : x ≡ at_node.Missing → fresh_choice k n boxes b ≡ choice_of k n boxes standing b i
     unfolding choice_of choice_in
     choice_missing e = rw (← told, e)
 
     -- a leaf that stands is taken as it stands
     pub choice_leaf :
-        {start count : ℕ} → x ≡ node.Leaf start count → Stands start count ≡ choice_of k n boxes standing b i
+        {start count : ℕ} → x ≡ at_node.Leaf start count → Stands start count ≡ choice_of k n boxes standing b i
     unfolding choice_of choice_in
     choice_leaf e = rw (← told, e)
 
-    module _ {f v child : ℕ} (e : x ≡ node.Cut f v child) where
+    module _ {f v child : ℕ} (e : x ≡ at_node.Cut f v child) where
       -- with no cuts allowed a cut that stands is a leaf
       pub choice_no_cut : k ≡ 0 → Leaf ≡ choice_of k n boxes standing b i
       unfolding choice_of choice_in

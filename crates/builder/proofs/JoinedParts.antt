@@ -1,4 +1,7 @@
 -- A cut that is seen, and what its parts come to: a refusal, or the cut with both parts.
+use Rattle.std.specs.Prelude.{Err, Result}
+use Rattle.builder.specs.declared.grow.Grown.{Grown}
+use Rattle.builder.specs.Said.{Grows}
 use Prim.Native.Nat.{ℕ, ◌+◌, ◌-◌, ◌*◌, ◌<◌}
 use native.Mathlib.Omega.{arith}
 use mathlib.Core.Bool.{Bool}
@@ -15,8 +18,6 @@ use Rattle.built.specs.GrownOn.{grown_on}
 use Rattle.built.specs.Stops.{up_to, child_before}
 use Rattle.built.proofs.FullTrees.{full_some, on_full}
 use Rattle.built.proofs.Stopping.{up_to_cut, up_to_right, up_to_child}
-use Rattle.builder.specs.declared.grow.Grown.{Grown}
-use Rattle.builder.specs.declared.grow.Grown.TheVariants as grown
 use Rattle.builder.specs.declared.grow.Spot.{Spot}
 use Rattle.builder.specs.declared.grow.Room.{Room}
 use Rattle.builder.specs.BoxWords.{boxes_in}
@@ -50,25 +51,25 @@ module _ {ws standing kept : List ℕ} {b : List (List ℕ)} {spot : Spot} {room
 
   -- a cut whose left part is refused is refused so
   pub left_part_refused :
-      {d : List (List ℕ)} {at : Spot} {nodes pool nodes₁ pool₁ nodes' pool' : List ℕ} {r : Grown} {why : Refusal} →
+      {d : List (List ℕ)} {at : Spot} {nodes pool nodes₁ pool₁ nodes' pool' : List ℕ} {r : Result Grown Refusal} {why : Refusal} →
       d ≡ left_part b f v → at ≡ left_spot spot →
-      GrownPart (grown_at ws standing kept d at room) at room nodes pool r nodes₁ pool₁ → r ≡ grown.Refused why →
-      GrownPart (grown_at ws standing kept b spot room) spot room nodes pool (grown.Refused why) nodes' pool'
+      GrownPart (grown_at ws standing kept d at room) at room nodes pool r nodes₁ pool₁ → r ≡ Err why →
+      GrownPart (grown_at ws standing kept b spot room) spot room nodes pool (Err why) nodes' pool'
   unfolding left_tree
   left_part_refused p q w e =
       rw cut_grows (cut_refused f v _ _ spot room s.there (rw (p, q) at w) e)
 
-  module _ {d : List (List ℕ)} {at : Spot} {nodes pool nodes₁ pool₁ : List ℕ} {r : Grown} {next entries : ℕ}
+  module _ {d : List (List ℕ)} {at : Spot} {nodes pool nodes₁ pool₁ : List ℕ} {r : Result Grown Refusal} {next entries : ℕ}
       {o : Bool} (p : d ≡ left_part b f v) (q : at ≡ left_spot spot)
       (w : GrownPart (grown_at ws standing kept d at room) at room nodes pool r nodes₁ pool₁)
-      (e : r ≡ grown.Part next entries o) where
+      (e : r ≡ Grows next entries o) where
     left_grown :
         GrownPart (up_to room.end left_tree (spot.node + 1)) (left_spot spot) room nodes pool r nodes₁ pool₁
     unfolding left_tree
     left_grown = rw (p, q) at w
 
     right_there :
-        {d' : List (List ℕ)} {at' : Spot} {nodes₂ nodes' pool' : List ℕ} {r' : Grown} → d' ≡ right_part b f v →
+        {d' : List (List ℕ)} {at' : Spot} {nodes₂ nodes' pool' : List ℕ} {r' : Result Grown Refusal} → d' ≡ right_part b f v →
         at' ≡ right_spot spot next entries →
         GrownPart (grown_at ws standing kept d' at' room) at' room nodes₂ pool₁ r' nodes' pool' →
         GrownPart (up_to room.end (right_tree next) next) (right_spot spot next entries) room nodes₂ pool₁ r' nodes'
@@ -78,7 +79,7 @@ module _ {ws standing kept : List ℕ} {b : List (List ℕ)} {spot : Spot} {room
 
     -- its left part, its own words and its right part make the cut
     pub parts_joined :
-        {d' : List (List ℕ)} {at' : Spot} {child : ℕ} {nodes₂ nodes' pool' : List ℕ} {r' : Grown} →
+        {d' : List (List ℕ)} {at' : Spot} {child : ℕ} {nodes₂ nodes' pool' : List ℕ} {r' : Result Grown Refusal} →
         child ≡ child_before room.end next →
         nodes₂ ≡ sets nodes₁ (spot.node * node_words) (f ∷ v ∷ child ∷ []) → d' ≡ right_part b f v →
         at' ≡ right_spot spot next entries →
@@ -102,7 +103,7 @@ module _ {ws standing kept : List ℕ} {b : List (List ℕ)} {spot : Spot} {room
             (omega (arith, s.before)) (right_some (spot.node + 1 + size left_tree)))
 
         right_grown :
-            {d' : List (List ℕ)} {at' : Spot} {nodes₂ nodes' pool' : List ℕ} {r' : Grown} → d' ≡ right_part b f v →
+            {d' : List (List ℕ)} {at' : Spot} {nodes₂ nodes' pool' : List ℕ} {r' : Result Grown Refusal} → d' ≡ right_part b f v →
             at' ≡ right_spot spot next entries →
             GrownPart (grown_at ws standing kept d' at' room) at' room nodes₂ pool₁ r' nodes' pool' →
             GrownPart right_side (right_spot spot next entries) room nodes₂ pool₁ r' nodes' pool'

@@ -3,7 +3,6 @@ pub mod BoxWords
 pub mod Sides
 pub mod Narrower
 pub mod Sorted
-pub mod Stepping
 pub mod Merging
 pub mod Runs
 pub mod Halves
@@ -24,7 +23,6 @@ pub mod JoinedParts
 pub mod CountingUp
 pub mod Rooting
 pub mod Building
-pub mod StepEnds
 pub mod StepAnswers
 pub mod BuildAnswers
 pub mod StepCalls

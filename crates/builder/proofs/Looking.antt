@@ -1,4 +1,7 @@
 -- What growing a part sees at its first node: the numbers that meet its box, a leaf that stands, and where a cut is.
+use Rattle.trees.specs.declared.words.Node.{Node}
+use Rattle.trees.specs.Standing.{Cut, Leaf, Missing}
+use Rattle.std.specs.Prelude.{Option}
 use Prim.Native.Nat.{ℕ, ◌+◌, ◌≤◌, ◌<◌}
 use native.Mathlib.Omega.{arith}
 use mathlib.Core.Bool.{Bool, true, false, cond, ◌||◌}
@@ -12,8 +15,6 @@ use Rattle.facts.proofs.Setting.{written_front}
 use Rattle.facts.proofs.Sets.{sets_front}
 use Rattle.fields.specs.Words.{field_count}
 use Rattle.rules.specs.Words.{most_rules}
-use Rattle.trees.specs.declared.words.Node.{Node}
-use Rattle.trees.specs.declared.words.Node.TheVariants as node
 use Rattle.trees.specs.Words.{leaf_mark}
 use Rattle.trees.specs.Node.{node_at}
 use Rattle.trees.specs.Spelt.{Spelt}
@@ -93,17 +94,17 @@ module _ (k n : ℕ) (boxes : List (List (List ℕ))) (standing : List ℕ) (b :
   -- a leaf that stands is that of its words
   pub stands_leaf :
       {start count : ℕ} → choice_of k n boxes standing b i ≡ choice.Stands start count →
-      node_at standing i ≡ node.Leaf start count
+      node_at standing i ≡ Leaf start count
   unfolding choice_of choice_in fresh_choice
   stands_leaf {start} {count} e = go (node_at standing i) refl e
     where
       go :
-          (x : Node) → node_at standing i ≡ x → choice_in k (fresh_choice k n boxes b) x ≡ choice.Stands start count →
-          node_at standing i ≡ node.Leaf start count
-      go node.Missing q t =
+          (x : Option Node) → node_at standing i ≡ x → choice_in k (fresh_choice k n boxes b) x ≡ choice.Stands start count →
+          node_at standing i ≡ Leaf start count
+      go Missing q t =
           absurd (fresh_stands (eqb k 0 || stops n boxes b) (chosen_field n boxes b) (chosen_value n boxes b) t)
-      go (node.Leaf s c) q t = q ∙ (let z = t in cc)
-      go (node.Cut f v w) q t = absurd (fresh_stands (eqb k 0) f v t)
+      go (Leaf s c) q t = q ∙ (let z = t in cc)
+      go (Cut f v w) q t = absurd (fresh_stands (eqb k 0) f v t)
 
   -- its entries lie within those that are kept, and are no more than there are boxes, where the words are spelt
   pub stands_within :
@@ -124,8 +125,8 @@ module _ (k n : ℕ) (boxes : List (List (List ℕ))) (standing : List ℕ) (b :
       kept_cut false g w t = cc
 
       go :
-          (x : Node) → node_at standing i ≡ x → choice_in k (fresh_choice k n boxes b) x ≡ choice.Cut f v → f < n
-      go node.Missing q t = fresh_cut (omega (arith, all)) (eqb k 0) (stops n boxes b) t
-      go (node.Leaf s c) q t = let z : ◌≡◌ {A = ℕ} 0 1 = cc in absurd (omega arith)
-      go (node.Cut g w child) q t =
+          (x : Option Node) → node_at standing i ≡ x → choice_in k (fresh_choice k n boxes b) x ≡ choice.Cut f v → f < n
+      go Missing q t = fresh_cut (omega (arith, all)) (eqb k 0) (stops n boxes b) t
+      go (Leaf s c) q t = let z : ◌≡◌ {A = ℕ} 0 1 = cc in absurd (omega arith)
+      go (Cut g w child) q t =
           let c = cut_is standing i q in omega (arith, kept_cut (eqb k 0) g w t, c.field, c.below_mark, all)

@@ -5,7 +5,6 @@ use mathlib.Core.Bool.{true, false, cond}
 use mathlib.Core.Path.{◌≡◌, sym, ap, subst, ◌∙◌}
 use mathlib.Core.Logic.{◌⊎◌, inl, inr}
 use mathlib.Core.List.{List}
-use lib.ListN.{length}
 use lib.Dec.{ltb}
 use borrow.Author.Tests.{ltb-true, ltb-false, le-ltb}
 use Rattle.facts.proofs.Bools.{sure, fails}
@@ -15,15 +14,6 @@ use Rattle.built.specs.CutValues.{cut_values, cut_count, has_most, chosen_field,
 use Rattle.built.proofs.Chosen.{most_at, most_of}
 use Rattle.builder.specs.declared.choice.Values.{Values}
 use Rattle.builder.specs.ChoiceSteps.{ValuesFound, ValuesSeen, found, few, HasMost, more_of, MostFound}
-
--- of one field the first has the most
-most_of_one : (count : ℕ → ℕ) → HasMost count 1 0
-most_of_one count =
-    record {
-      there = omega arith;
-      none_more = λ g l. let e : g ≡ 0 = omega arith in rw e (omega arith);
-      lower_fewer = λ g l. absurd (omega arith);
-    }
 
 module _ {count : ℕ → ℕ} {n f : ℕ} (w : HasMost count n f) where
   -- a field with no more than that leaves it
@@ -58,19 +48,6 @@ module _ {values : ℕ → List ℕ} where
   -- what is found for a field is found for the field that it names
   found_own : {f : ℕ} {r : Values} → ValuesFound values f r → ValuesFound values r.field r
   found_own {r = r} w = subst (λ (f : ℕ). ValuesFound values f r) (sym w.of_field) w
-
-  -- what is seen for field 0, where none is too few, is found
-  seen_first : {r : Values} → ValuesSeen values 0 0 r → ValuesFound values 0 r
-  seen_first (found w) = w
-  seen_first (few e c h) = record { of_field = e; counts = omega arith; halves = λ l. absurd (omega arith) }
-
-  -- what is found for field 0 has the most of one field
-  most_found : {r : Values} → ValuesFound values 0 r → MostFound values 1 r
-  most_found w = record { most = rw w.of_field (most_of_one (λ f. length (values f))); found = found_own w }
-
-  -- what is seen for field 0 has the most of one field
-  pub most_first : {r : Values} → ValuesSeen values 0 0 r → MostFound values 1 r
-  most_first w = most_found (seen_first w)
 
   -- the one with more, of the most of n fields and of what is seen for the next, is the most of n + 1
   pub most_step :

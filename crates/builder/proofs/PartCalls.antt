@@ -1,12 +1,14 @@
 -- What comes out of anyone's part: what is whole may serve and begins with the part's own nodes; what is stopped may be
 -- gone on with, to the same tree.
+use Rattle.std.specs.Prelude.{Err}
+use Rattle.builder.specs.Said.{Stopped, Whole}
 use Prim.Native.Nat.{ℕ, ◌+◌, ◌*◌}
 use native.Mathlib.Omega.{arith}
 use mathlib.Core.Path.{◌≡◌, sym, ◌∙◌}
 use mathlib.Core.List.{List}
 use lib.ListN.{length, take}
 use Rattle.refusals.specs.declared.Refusal.{Refusal}
-use Rattle.refusals.specs.declared.Verdict.TheVariants as verdict
+use Rattle.refusals.specs.Verdict as verdict
 use Rattle.rules.specs.Words.{rule_count}
 use Rattle.trees.specs.Words.{node_words, node_count}
 use Rattle.tree_check.specs.Serves.{Serves}
@@ -24,7 +26,6 @@ use Rattle.built.proofs.StopTaken.{stop_taken}
 use Rattle.built.proofs.StopLaws.{stop_nodes_lem, stop_pool_lem}
 use Rattle.built.proofs.FromStop.{on_again}
 use Rattle.built.proofs.PartTaken.{part_covers, part_within, part_kept}
-use Rattle.builder.specs.declared.step.Step.TheVariants.{Refused, Whole, Stopped}
 use Rattle.builder.specs.Build.{at_least_one, OnBuilt}
 use Rattle.builder.proofs.BuildAnswers.{step_refuses}
 use Rattle.builder.proofs.StepCalls.{stands_front, step_whole, step_stopped}
@@ -41,7 +42,7 @@ module _ (rs : List ℕ) (n : ℕ) (part kept : List ℕ) (most : ℕ) where
   -- a part that is not taken is refused so, and both outputs are as found
   pub part_refused :
       {nodes pool : List ℕ} {why : Refusal} → so_far_verdict rs n part kept ≡ verdict.Refused why →
-      OnBuilt rs n part kept most nodes pool (Refused why) nodes pool
+      OnBuilt rs n part kept most nodes pool (Err why) nodes pool
   part_refused q = step_refuses end tree q
 
   module _ {nodes pool nodes' pool' : List ℕ} where

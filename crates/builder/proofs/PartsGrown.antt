@@ -1,5 +1,8 @@
 -- A part grown from its node: a leaf, stored; a cut whose left part is refused; and a cut whose left part, own words
 -- and right part are stored in turn.
+use Rattle.std.specs.Prelude.{Err, Result}
+use Rattle.builder.specs.declared.grow.Grown.{Grown}
+use Rattle.builder.specs.Said.{Grows}
 use Prim.Native.Nat.{ℕ, ◌+◌, ◌*◌, ◌≤◌}
 use native.Mathlib.Omega.{arith}
 use mathlib.Core.Bool.{Bool, true, false}
@@ -8,16 +11,14 @@ use mathlib.Core.List.{List, [], ◌∷◌}
 use lib.ListN.{length, length-append}
 use lib.Seq.{sets}
 use Rattle.refusals.specs.declared.Refusal.{Refusal}
-use Rattle.refusals.specs.declared.Verdict.{Verdict}
-use Rattle.refusals.specs.declared.Verdict.TheVariants as verdict
+use Rattle.refusals.specs.Verdict.{Verdict}
+use Rattle.refusals.specs.Verdict as verdict
 use Rattle.trees.specs.Words.{node_words, leaf_mark}
 use Rattle.built.specs.Trees.{Tree, bud, leaf, cut}
 use Rattle.built.specs.Layout.{size, pooled, right_child, laid, fits}
 use Rattle.built.specs.Stops.{last_open}
 use Rattle.built.proofs.FirstNode.{left_refuses, right_decides, leaf_fits}
 use Rattle.built.proofs.PartWords.{cut_words, cut_entries}
-use Rattle.builder.specs.declared.grow.Grown.{Grown}
-use Rattle.builder.specs.declared.grow.Grown.TheVariants as grown
 use Rattle.builder.specs.declared.grow.Spot.{Spot}
 use Rattle.builder.specs.declared.grow.Room.{Room}
 use Rattle.builder.specs.Growing.{left_spot, right_spot, grown_said, fits_at, GrownPart}
@@ -26,7 +27,7 @@ use Rattle.builder.proofs.PartAnswers.{part_refused, refused_says, part_says}
 -- a part that is not begun leaves all as it is
 pub bud_grown :
     (spot : Spot) (room : Room) {nodes pool : List ℕ} →
-    GrownPart bud spot room nodes pool (grown.Part spot.node spot.entries true) nodes pool
+    GrownPart bud spot room nodes pool (Grows spot.node spot.entries true) nodes pool
 unfolding laid pooled size fits last_open
 bud_grown spot room =
     let n : spot.node ≡ spot.node + 0 = omega arith in
@@ -40,7 +41,7 @@ module _ (l : List ℕ) (spot : Spot) (room : Room) (there : (spot.node + 1) * n
       spot.entries + length l ≤ room.pool →
       nodes' ≡ sets nodes (spot.node * node_words) (leaf_mark ∷ spot.entries ∷ length l ∷ []) →
       pool' ≡ sets pool spot.entries l →
-      GrownPart (leaf l) spot room nodes pool (grown.Part (spot.node + 1) (spot.entries + length l) false)
+      GrownPart (leaf l) spot room nodes pool (Grows (spot.node + 1) (spot.entries + length l) false)
       nodes' pool'
   unfolding laid pooled size last_open
   leaf_grown h p q =
@@ -51,17 +52,17 @@ module _ (l : List ℕ) (spot : Spot) (room : Room) (there : (spot.node + 1) * n
       }
 
 module _ (f v : ℕ) (x y : Tree) (spot : Spot) (room : Room) (there : (spot.node + 1) * node_words ≤ room.nodes)
-    {nodes pool nodes₁ pool₁ : List ℕ} {r : Grown} (left : GrownPart x (left_spot spot) room nodes pool r nodes₁ pool₁)
+    {nodes pool nodes₁ pool₁ : List ℕ} {r : Result Grown Refusal} (left : GrownPart x (left_spot spot) room nodes pool r nodes₁ pool₁)
   where
     -- a cut whose left part is refused is refused so
     pub cut_refused :
-        {why : Refusal} {nodes' pool' : List ℕ} → r ≡ grown.Refused why →
-        GrownPart (cut f v x y) spot room nodes pool (grown.Refused why) nodes' pool'
+        {why : Refusal} {nodes' pool' : List ℕ} → r ≡ Err why →
+        GrownPart (cut f v x y) spot room nodes pool (Err why) nodes' pool'
     cut_refused e =
         part_refused
         (left_refuses spot.node spot.entries room.nodes room.pool there f v x y (refused_says left e))
 
-    module _ {next entries : ℕ} {o : Bool} (e : r ≡ grown.Part next entries o) where
+    module _ {next entries : ℕ} {o : Bool} (e : r ≡ Grows next entries o) where
       fine : fits_at x (left_spot spot) room ≡ verdict.Fine
       fine = (part_says left e).0
 
@@ -87,7 +88,7 @@ module _ (f v : ℕ) (x y : Tree) (spot : Spot) (room : Room) (there : (spot.nod
 
       -- a cut whose left part fits, is stored, and is followed by its own words and its right part
       pub cut_grown :
-          {child : ℕ} {nodes₂ nodes' pool' : List ℕ} {r' : Grown} → child ≡ right_child y next →
+          {child : ℕ} {nodes₂ nodes' pool' : List ℕ} {r' : Result Grown Refusal} → child ≡ right_child y next →
           nodes₂ ≡ sets nodes₁ (spot.node * node_words) (f ∷ v ∷ child ∷ []) →
           GrownPart y (right_spot spot next entries) room nodes₂ pool₁ r' nodes' pool' →
           GrownPart (cut f v x y) spot room nodes pool r' nodes' pool'

@@ -12,13 +12,10 @@ use Rattle.fields.specs.Boxes.{root_box}
 use Rattle.fields.proofs.Root.{root_pairs}
 use Rattle.rules.specs.Words.{most_rules}
 use Rattle.trees.specs.Spelt.{Spelt, counts_below}
-use Rattle.built.specs.GrownOn.{tree_on}
-use Rattle.built.specs.Stops.{up_to}
-use Rattle.builder.specs.declared.grow.Grown.{Grown}
 use Rattle.builder.specs.declared.grow.Spot.{Spot}
 use Rattle.builder.specs.declared.grow.Room.{Room}
-use Rattle.builder.specs.BoxWords.{box_count, boxes_in}
-use Rattle.builder.specs.Growing.{grown_at, GrownPart, Growable}
+use Rattle.builder.specs.BoxWords.{box_count}
+use Rattle.builder.specs.Growing.{Growable}
 use Rattle.builder.specs.BuildSteps.{root_spot, Rooted}
 use Rattle.builder.proofs.Narrower.{meeting_keep}
 
@@ -54,10 +51,3 @@ module _ (ws standing kept : List ℕ) {room : Room} {b : List (List ℕ)} {at :
         nodes = r.nodes;
         pool = r.pool;
       })
-
-  -- what is grown so is the tree of the boxes, as far as it is before the end
-  pub root_grown :
-      {nodes pool nodes' pool' : List ℕ} {r : Grown} →
-      GrownPart (grown_at ws standing kept b at room) at room nodes pool r nodes' pool' →
-      GrownPart (up_to room.end (tree_on (boxes_in ws) standing kept) 0) root_spot room nodes pool r nodes' pool'
-  root_grown w = rw (p, q) at w

@@ -1,4 +1,7 @@
 -- What a look at the first node of a part says of the part: it does not fit; it is a leaf; or it is a cut.
+use Rattle.std.specs.Prelude.{Err, Option, Result}
+use Rattle.builder.specs.declared.grow.Look.{Look}
+use Rattle.builder.specs.Said.{LooksBud, LooksCut, LooksLeaf}
 use Prim.Native.Nat.{ℕ, ◌+◌, ◌*◌, ◌≤◌, ◌<◌}
 use native.Mathlib.Omega.{arith}
 use mathlib.Core.Path.{◌≡◌, sym, ap, subst, ◌∙◌}
@@ -6,7 +9,7 @@ use mathlib.Core.List.{List}
 use lib.ListN.{length, take}
 use lib.Seq.{length-take-le}
 use Rattle.refusals.specs.declared.Refusal.{Refusal}
-use Rattle.refusals.specs.declared.Verdict.TheVariants as verdict
+use Rattle.refusals.specs.Verdict as verdict
 use Rattle.fields.specs.Words.{field_count}
 use Rattle.rules.specs.Words.{most_rules}
 use Rattle.trees.specs.Words.{node_words}
@@ -16,8 +19,6 @@ use Rattle.built.proofs.FirstNode.{first_node_short}
 use Rattle.built.proofs.FullTrees.{full_some, on_full}
 use Rattle.built.proofs.Stopping.{up_to_end, up_to_leaf, up_to_some}
 use Rattle.builder.specs.declared.choice.Choice.TheVariants as choice
-use Rattle.builder.specs.declared.grow.Look.{Look}
-use Rattle.builder.specs.declared.grow.Look.TheVariants as look
 use Rattle.builder.specs.declared.grow.Spot.{Spot}
 use Rattle.builder.specs.declared.grow.Room.{Room}
 use Rattle.builder.specs.BoxWords.{boxes_in}
@@ -44,21 +45,21 @@ module _ (ws standing kept : List ℕ) (b : List (List ℕ)) (spot : Spot) (room
 module _ {ws standing kept : List ℕ} {b : List (List ℕ)} {spot : Spot} {room : Room} {met : List ℕ} where
   -- where no part is said to begin, none does
   pub seen_bud :
-      {r : Look} → Looked ws standing kept b spot room met r → r ≡ look.Bud →
+      {r : Result (Option Look) Refusal} → Looked ws standing kept b spot room met r → r ≡ LooksBud →
       grown_at ws standing kept b spot room ≡ bud
-  seen_bud w e = go (subst (λ (x : Look). Looked ws standing kept b spot room met x) e w)
+  seen_bud w e = go (subst (λ (x : Result (Option Look) Refusal). Looked ws standing kept b spot room met x) e w)
     where
-      go : Looked ws standing kept b spot room met look.Bud → grown_at ws standing kept b spot room ≡ bud
+      go : Looked ws standing kept b spot room met LooksBud → grown_at ws standing kept b spot room ≡ bud
       go (is_bud h) = up_to_end room.end (tree_at ws standing kept b spot) spot.node h
 
   -- a first node that does not fit is refused
   pub seen_short :
-      {r : Look} {why : Refusal} → Looked ws standing kept b spot room met r → r ≡ look.Refused why →
+      {r : Result (Option Look) Refusal} {why : Refusal} → Looked ws standing kept b spot room met r → r ≡ Err why →
       fits_at (grown_at ws standing kept b spot room) spot room ≡ verdict.Refused why
-  seen_short {why = why} w e = go (subst (λ (x : Look). Looked ws standing kept b spot room met x) e w)
+  seen_short {why = why} w e = go (subst (λ (x : Result (Option Look) Refusal). Looked ws standing kept b spot room met x) e w)
     where
       go :
-          Looked ws standing kept b spot room met (look.Refused why) →
+          Looked ws standing kept b spot room met (Err why) →
           fits_at (grown_at ws standing kept b spot room) spot room ≡ verdict.Refused why
       go (short l h q) =
           first_node_short (grown_at ws standing kept b spot room) spot.node spot.entries room.nodes
@@ -69,11 +70,11 @@ module _ {ws standing kept : List ℕ} {b : List (List ℕ)} {spot : Spot} {room
 
   -- where a leaf is said, a leaf is seen
   pub seen_leaf :
-      {r : Look} {count : ℕ} → Looked ws standing kept b spot room met r → r ≡ look.Leaf count →
+      {r : Result (Option Look) Refusal} {count : ℕ} → Looked ws standing kept b spot room met r → r ≡ LooksLeaf count →
       SeenLeaf ws standing kept b spot room met count
-  seen_leaf {count = count} w e = go (subst (λ (x : Look). Looked ws standing kept b spot room met x) e w)
+  seen_leaf {count = count} w e = go (subst (λ (x : Result (Option Look) Refusal). Looked ws standing kept b spot room met x) e w)
     where
-      go : Looked ws standing kept b spot room met (look.Leaf count) → SeenLeaf ws standing kept b spot room met count
+      go : Looked ws standing kept b spot room met (LooksLeaf count) → SeenLeaf ws standing kept b spot room met count
       go (is_leaf l h n q) = record { before = l; there = h; few = n; tree = q }
 
   -- what is grown of a leaf that is seen is the leaf
@@ -85,13 +86,13 @@ module _ {ws standing kept : List ℕ} {b : List (List ℕ)} {spot : Spot} {room
 
   -- where a cut is said, a cut is seen
   pub seen_cut :
-      {r : Look} {f v count : ℕ} → Looked ws standing kept b spot room met r → r ≡ look.Cut f v count →
+      {r : Result (Option Look) Refusal} {f v count : ℕ} → Looked ws standing kept b spot room met r → r ≡ LooksCut f v count →
       SeenCut ws standing kept b spot room met f v count
   seen_cut {f = f} {v = v} {count = count} w e =
-      go (subst (λ (x : Look). Looked ws standing kept b spot room met x) e w)
+      go (subst (λ (x : Result (Option Look) Refusal). Looked ws standing kept b spot room met x) e w)
     where
       go :
-          Looked ws standing kept b spot room met (look.Cut f v count) →
+          Looked ws standing kept b spot room met (LooksCut f v count) →
           SeenCut ws standing kept b spot room met f v count
       go (is_cut l h n q m) = record { before = l; there = h; few = n; chosen = q; meets = m }
 

@@ -1,4 +1,8 @@
 -- A cut that is seen: its parts can be grown.
+use Rattle.std.specs.Prelude.{Result}
+use Rattle.refusals.specs.declared.Refusal.{Refusal}
+use Rattle.builder.specs.declared.grow.Grown.{Grown}
+use Rattle.builder.specs.Said.{Grows}
 use Prim.Native.Nat.{ℕ, ◌+◌, ◌-◌, ◌≤◌, ◌<◌}
 use native.Mathlib.Omega.{arith}
 use mathlib.Core.Bool.{Bool, true}
@@ -17,8 +21,6 @@ use Rattle.built.specs.Boxes.{meeting}
 use Rattle.built.specs.Stops.{child_before}
 use Rattle.built.proofs.Meeting.{meeting_iff}
 use Rattle.built.proofs.Fitting.{fine_nodes, fine_entries}
-use Rattle.builder.specs.declared.grow.Grown.{Grown}
-use Rattle.builder.specs.declared.grow.Grown.TheVariants as grown
 use Rattle.builder.specs.declared.grow.Spot.{Spot}
 use Rattle.builder.specs.declared.grow.Room.{Room}
 use Rattle.builder.specs.BoxWords.{box_count, boxes_in}
@@ -90,10 +92,10 @@ module _ {ws above standing kept : List ℕ} {b : List (List ℕ)} {spot : Spot}
           pool = g.pool;
         })
 
-    module _ {d : List (List ℕ)} {at : Spot} {nodes pool nodes₁ pool₁ : List ℕ} {r : Grown} {next entries : ℕ}
+    module _ {d : List (List ℕ)} {at : Spot} {nodes pool nodes₁ pool₁ : List ℕ} {r : Result Grown Refusal} {next entries : ℕ}
         {o : Bool} (p : d ≡ left_part b f v) (q : at ≡ left_spot spot)
         (w : GrownPart (grown_at ws standing kept d at room) at room nodes pool r nodes₁ pool₁)
-        (e : r ≡ grown.Part next entries o) where
+        (e : r ≡ Grows next entries o) where
       left_grown :
           GrownPart (grown_at ws standing kept (left_part b f v) (left_spot spot) room) (left_spot spot) room nodes pool r
           nodes₁ pool₁

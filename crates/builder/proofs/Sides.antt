@@ -10,7 +10,7 @@ use lib.ListN.{length, get_or, set, take}
 use lib.Seq.{sets, get_or-set_same, get_or-set_other, get_or-take, length-take-le, ext_get_or, lt-length-set}
 use Rattle.facts.proofs.Cases.{same_or_not}
 use Rattle.facts.proofs.Counted.{map_up_same}
-use Rattle.refusals.specs.declared.Verdict.TheVariants.{Fine}
+use Rattle.refusals.specs.Verdict.{Fine}
 use Rattle.fields.specs.Words.{address_bits, field_count}
 use Rattle.fields.proofs.Fields.{two_ends}
 use Rattle.rules.specs.Words.{rule_count, form_of, field_of}
@@ -35,10 +35,6 @@ side_of rs i = get_or (rule_box rs (i / field_count)) (i % field_count) []
 -- the first n sides stand in the words
 pub record SidesFilled (rs ws : List ℕ) (n : ℕ) : Type 0 where
   pub side : (i : ℕ) → i < n → side_at ws i ≡ side_of rs i
-
--- where the loop begins none does
-pub sides_first : (rs ws : List ℕ) → SidesFilled rs ws 0
-sides_first rs ws = record { side = λ i h. absurd (omega arith) }
 
 -- a side's ends are two numbers, as those of a field are
 side_two : (rs : List ℕ) (i : ℕ) → side_of rs i ≡ get_or (side_of rs i) 0 0 ∷ get_or (side_of rs i) 1 0 ∷ []

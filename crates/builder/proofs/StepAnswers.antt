@@ -1,5 +1,8 @@
 -- The answers of the build and of a step, by what growing from the root leaves: the list is judged first, and then the
 -- tree decides. A stop that is too late to matter is taken for the latest.
+use Rattle.std.specs.Prelude.{Err, Result}
+use Rattle.builder.specs.declared.grow.Grown.{Grown}
+use Rattle.builder.specs.Said.{Grows}
 use Prim.Native.Nat.{ℕ, ◌*◌, ◌≤◌, ◌<◌, min}
 use native.Mathlib.Nat.{min-le_right, min-eq_left, min-eq_right, zero-add}
 use native.Mathlib.Omega.{arith}
@@ -10,8 +13,8 @@ use lib.Dec.{ltb}
 use borrow.Author.Tests.{lt-leb, le-leb, lt-ltb, le-ltb}
 use Rattle.facts.proofs.Cases.{WithinOrOver, at_most, over, within_or_over}
 use Rattle.refusals.specs.declared.Refusal.{Refusal}
-use Rattle.refusals.specs.declared.Verdict.{Verdict}
-use Rattle.refusals.specs.declared.Verdict.TheVariants.{Fine, Refused}
+use Rattle.refusals.specs.Verdict.{Verdict}
+use Rattle.refusals.specs.Verdict.{Fine, Refused}
 use Rattle.refusals.specs.Paper.{Paper, success, on_paper}
 use Rattle.refusals.specs.Order.{◌then◌}
 use Rattle.refusals.proofs.Order.{then_refused, leaving_fine, leaving_refused}
@@ -23,21 +26,19 @@ use Rattle.built.specs.Stops.{up_to, last_open}
 use Rattle.built.specs.BuiltTree.{tree_fits}
 use Rattle.built.proofs.FullTrees.{Full, last_open_lem}
 use Rattle.built.proofs.LateStops.{late_whole, late_fits}
-use Rattle.builder.specs.declared.grow.Grown.{Grown}
-use Rattle.builder.specs.declared.grow.Grown.TheVariants as grown
 use Rattle.builder.specs.Build.{TreeStored, step_paper, step_values}
 use Rattle.builder.specs.BuildSteps.{RootGrown, most_end}
 use Rattle.builder.specs.Answers.{step_of}
 
 -- ---- the words are stored
 
-module _ {R : Type 0} (paper : R → Paper) (answer : Grown → R) {t : Tree} {nodes pool nodes' pool' : List ℕ}
-    {g : Grown} (w : RootGrown t nodes pool g nodes' pool') where
+module _ {R : Type 0} (paper : R → Paper) (answer : Result Grown Refusal → R) {t : Tree} {nodes pool nodes' pool' : List ℕ}
+    {g : Result Grown Refusal} (w : RootGrown t nodes pool g nodes' pool') where
   -- what growing from the root leaves is what the call leaves, where its answers say on paper what the root's say
   pub stored :
       {r : R} {values : List ℕ} → r ≡ answer g →
-      ((why : Refusal) → paper (answer (grown.Refused why)) ≡ on_paper why) →
-      paper (answer (grown.Part (size t) (length (pooled t)) (last_open t))) ≡ success values →
+      ((why : Refusal) → paper (answer (Err why)) ≡ on_paper why) →
+      paper (answer (Grows (size t) (length (pooled t)) (last_open t))) ≡ success values →
       TreeStored paper (tree_fits t (length nodes) (length pool)) values t nodes pool r nodes' pool'
   stored {r} {values} q refuses says = go (tree_fits t (length nodes) (length pool)) refl
     where
@@ -46,14 +47,14 @@ module _ {R : Type 0} (paper : R → Paper) (answer : Grown → R) {t : Tree} {n
 
       go : (u : Verdict) → v ≡ u → TreeStored paper v values t nodes pool r nodes' pool'
       go Fine e =
-          let said : g ≡ grown.Part (size t) (length (pooled t)) (last_open t) =
+          let said : g ≡ Grows (size t) (length (pooled t)) (last_open t) =
           w.answers ∙ rw e (simp zero-add refl) in
           let p : paper r ≡ success values = ap paper (q ∙ ap answer said) ∙ says in (
             writes_fine e p (w.nodes_left ∙ leaving_fine _ _ e),
             writes_fine e p (w.pool_left ∙ leaving_fine _ _ e),
           )
       go (Refused why) e =
-          let said : g ≡ grown.Refused why = w.answers ∙ rw e in
+          let said : g ≡ Err why = w.answers ∙ rw e in
           let p : paper r ≡ on_paper why = ap paper (q ∙ ap answer said) ∙ refuses why in (
             writes_refused {why = why} e p (w.nodes_left ∙ leaving_refused _ _ e),
             writes_refused {why = why} e p (w.pool_left ∙ leaving_refused _ _ e),
@@ -81,7 +82,7 @@ module _ {R : Type 0} {paper : R → Paper} {u : Verdict} (v : Verdict) {values 
 late : (n e : ℕ) → most_end ≤ e → min n (most_nodes * node_words) < e * node_words
 late n e h = omega (arith, min-le_right n (most_nodes * node_words))
 
-module _ {nodes pool nodes' pool' : List ℕ} {g : Grown} where
+module _ {nodes pool nodes' pool' : List ℕ} {g : Result Grown Refusal} where
   -- two trees that fit alike, and are one where they fit, are grown alike
   same_grown :
       {s t : Tree} → tree_fits s (length nodes) (length pool) ≡ tree_fits t (length nodes) (length pool) →
@@ -134,7 +135,7 @@ module _ {nodes pool nodes' pool' : List ℕ} {g : Grown} where
 pub step_says :
     {t : Tree} (e : ℕ) → Full t →
     step_paper
-    (step_of (grown.Part (size (up_to e t 0)) (length (pooled (up_to e t 0))) (last_open (up_to e t 0)))) ≡
+    (step_of (Grows (size (up_to e t 0)) (length (pooled (up_to e t 0))) (last_open (up_to e t 0)))) ≡
     success (step_values e t)
 step_says {t} e f = go (within_or_over (size t) e)
   where
@@ -144,7 +145,7 @@ step_says {t} e f = go (within_or_over (size t) e)
     go :
         WithinOrOver (size t) e →
         step_paper
-        (step_of (grown.Part (size (up_to e t 0)) (length (pooled (up_to e t 0))) (last_open (up_to e t 0)))) ≡
+        (step_of (Grows (size (up_to e t 0)) (length (pooled (up_to e t 0))) (last_open (up_to e t 0)))) ≡
         success (step_values e t)
     go (at_most h) = rw (opens, le-ltb e (size t) h, le-leb (size t) e h)
     go (over h) = rw (opens, lt-ltb e (size t) h, lt-leb (size t) e h)

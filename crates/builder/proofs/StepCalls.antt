@@ -1,5 +1,8 @@
 -- What the promise of a step tells of its answers: a whole tree is whole, a stop is short of it, and a refusal is that
 -- of what was judged before or of a node before the stop.
+use Rattle.std.specs.Prelude.{Err, Result}
+use Rattle.builder.specs.declared.step.Step.{Step}
+use Rattle.builder.specs.Said.{Stopped, Whole}
 use Prim.Native.Nat.{ℕ, ◌*◌, ◌<◌}
 use native.Mathlib.Omega.{arith}
 use mathlib.Core.Bool.{Bool, true, false, cond}
@@ -11,8 +14,8 @@ use borrow.Author.Tests.{leb-true, leb-false}
 use Rattle.facts.specs.Lists.{written}
 use Rattle.facts.proofs.Setting.{written_front}
 use Rattle.refusals.specs.declared.Refusal.{Refusal}
-use Rattle.refusals.specs.declared.Verdict.{Verdict}
-use Rattle.refusals.specs.declared.Verdict.TheVariants as verdict
+use Rattle.refusals.specs.Verdict.{Verdict}
+use Rattle.refusals.specs.Verdict as verdict
 use Rattle.refusals.specs.Paper.{success}
 use Rattle.refusals.specs.Order.{◌then◌}
 use Rattle.refusals.proofs.Order.{then_fine_iff}
@@ -24,8 +27,6 @@ use Rattle.built.specs.Stops.{up_to}
 use Rattle.built.specs.BuiltTree.{tree_fits}
 use Rattle.built.proofs.Laying.{length_laid}
 use Rattle.built.proofs.Stopping.{up_to_whole, up_to_size}
-use Rattle.builder.specs.declared.step.Step.{Step}
-use Rattle.builder.specs.declared.step.Step.TheVariants.{Refused, Whole, Stopped}
 use Rattle.builder.specs.Build.{step_paper, StepBuilt}
 
 -- the tree t fits, and its words stand in front of both outputs; it has n nodes and p entries
@@ -57,7 +58,7 @@ flag_short false e q = refl
 module _ (v : Verdict) (e : ℕ) (t : Tree) {nodes pool nodes' pool' : List ℕ} where
   -- what a step that completes stands for, by its values
   told :
-      {r : Step} {n p flag : ℕ} → StepBuilt v e t nodes pool r nodes' pool' →
+      {r : Result Step Refusal} {n p flag : ℕ} → StepBuilt v e t nodes pool r nodes' pool' →
       step_paper r ≡ success (n ∷ p ∷ flag ∷ []) →
       (v ≡ verdict.Fine) × Stands (up_to e t 0) nodes pool n p nodes' pool' × (flag ≡ cond (leb (size t) e) 1 0)
   told w q =
@@ -95,7 +96,7 @@ module _ (v : Verdict) (e : ℕ) (t : Tree) {nodes pool nodes' pool' : List ℕ}
 
   -- a refusal is that of what was judged before, or of a node before the stop
   pub step_refused :
-      {why : Refusal} → StepBuilt v e t nodes pool (Refused why) nodes' pool' →
+      {why : Refusal} → StepBuilt v e t nodes pool (Err why) nodes' pool' →
       ((v then tree_fits (up_to e t 0) (length nodes) (length pool)) ≡ verdict.Refused why) × (nodes' ≡ nodes) ×
       (pool' ≡ pool)
   step_refused w =

@@ -1,5 +1,8 @@
 -- However often a build is stopped: a stop is the one that is defined, going on from it is the later stop or the whole,
 -- and what is said in the end is what a build that was never stopped says.
+use Rattle.std.specs.Prelude.{Err, Result}
+use Rattle.builder.specs.declared.step.Step.{Step}
+use Rattle.builder.specs.Said.{BuiltTree, Stopped, Whole}
 use Prim.Native.Nat.{ℕ, ◌+◌, ◌*◌, ◌<◌}
 use native.Mathlib.Nat.{le-max_right}
 use native.Mathlib.Omega.{arith}
@@ -8,8 +11,8 @@ use mathlib.Core.Logic.{◌⊎◌, inl, inr}
 use mathlib.Core.List.{List}
 use lib.ListN.{length, take}
 use Rattle.refusals.specs.declared.Refusal.{Refusal}
-use Rattle.refusals.specs.declared.Verdict.{Verdict}
-use Rattle.refusals.specs.declared.Verdict.TheVariants as verdict
+use Rattle.refusals.specs.Verdict.{Verdict}
+use Rattle.refusals.specs.Verdict as verdict
 use Rattle.refusals.specs.Order.{◌then◌}
 use Rattle.refusals.proofs.Order.{then_fine, then_refused, then_cases, refused_not_fine}
 use Rattle.refusals.proofs.Promises.{writes_fine, writes_refused}
@@ -27,9 +30,6 @@ use Rattle.built.proofs.Covering.{built_covers, covers_full}
 use Rattle.built.proofs.Accepting.{fit_sizes}
 use Rattle.built.proofs.StopLaws.{stop_nodes_lem, stop_pool_lem}
 use Rattle.built.proofs.FromStop.{stop_count, stop_fine, stop_on}
-use Rattle.builder.specs.declared.build.Built.TheVariants as built
-use Rattle.builder.specs.declared.step.Step.{Step}
-use Rattle.builder.specs.declared.step.Step.TheVariants.{Refused, Whole, Stopped}
 use Rattle.builder.specs.Build.{TreeBuilt, at_least_one, StepBuilt, SomeBuilt, OnBuilt}
 use Rattle.builder.proofs.StepCalls.{stands_front, step_whole, step_stopped, step_refused}
 
@@ -44,7 +44,7 @@ module _ (rs : List ℕ) {nodes pool nodes' pool' : List ℕ} where
     -- a whole tree is what the build gives
     whole_built :
         {n p : ℕ} → StepBuilt v e (built_tree rs) nodes pool (Whole n p) nodes' pool' →
-        TreeBuilt rs nodes pool (built.Tree n p) nodes' pool'
+        TreeBuilt rs nodes pool (BuiltTree n p) nodes' pool'
     unfolding build_verdict
     whole_built w =
         let u = step_whole v e (built_tree rs) w in
@@ -77,8 +77,8 @@ module _ (rs : List ℕ) {nodes pool nodes' pool' : List ℕ} where
     -- a refusal is the build's
     refusal_built :
         {why : Refusal} → (v ≡ verdict.Refused why → list_verdict rs ≡ verdict.Refused why) →
-        StepBuilt v e (built_tree rs) nodes pool (Refused why) nodes' pool' →
-        TreeBuilt rs nodes pool (built.Refused why) nodes' pool'
+        StepBuilt v e (built_tree rs) nodes pool (Err why) nodes' pool' →
+        TreeBuilt rs nodes pool (Err why) nodes' pool'
     unfolding build_verdict
     refusal_built {why} same w =
         let u = step_refused v e (built_tree rs) w in
@@ -102,7 +102,7 @@ module _ (rs : List ℕ) {nodes pool nodes' pool' : List ℕ} where
     -- so many nodes are the whole tree, as the build gives it
     pub some_whole :
         {n p : ℕ} → SomeBuilt rs most nodes pool (Whole n p) nodes' pool' →
-        TreeBuilt rs nodes pool (built.Tree n p) nodes' pool'
+        TreeBuilt rs nodes pool (BuiltTree n p) nodes' pool'
     some_whole w = whole_built (list_verdict rs) (at_least_one most) (at_least_one_lem most) (λ q. q) w
 
     -- or its stop after so many
@@ -113,15 +113,15 @@ module _ (rs : List ℕ) {nodes pool nodes' pool' : List ℕ} where
 
     -- or refused as the build is
     pub some_refused :
-        {why : Refusal} → SomeBuilt rs most nodes pool (Refused why) nodes' pool' →
-        TreeBuilt rs nodes pool (built.Refused why) nodes' pool'
+        {why : Refusal} → SomeBuilt rs most nodes pool (Err why) nodes' pool' →
+        TreeBuilt rs nodes pool (Err why) nodes' pool'
     some_refused w = refusal_built (list_verdict rs) (at_least_one most) (at_least_one_lem most) (λ q. q) (λ q. q) w
 
   -- ---- a step on from a stop
 
   module _ (j : ℕ) (part kept : List ℕ) (s : StopOf rs j part kept) (most : ℕ) where
     on_tree :
-        {r : Step} → OnBuilt rs (rule_count rs) part kept most nodes pool r nodes' pool' →
+        {r : Result Step Refusal} → OnBuilt rs (rule_count rs) part kept most nodes pool r nodes' pool' →
         StepBuilt (so_far_verdict rs (rule_count rs) part kept) (node_count part + at_least_one most) (built_tree rs)
         nodes pool r nodes' pool'
     on_tree w = rw (stop_on rs j part kept s) at w
@@ -129,7 +129,7 @@ module _ (rs : List ℕ) {nodes pool nodes' pool' : List ℕ} where
     -- going on is the whole tree, as the build gives it
     pub on_whole :
         {n p : ℕ} → OnBuilt rs (rule_count rs) part kept most nodes pool (Whole n p) nodes' pool' →
-        TreeBuilt rs nodes pool (built.Tree n p) nodes' pool'
+        TreeBuilt rs nodes pool (BuiltTree n p) nodes' pool'
     on_whole w = whole_built _ _ (omega (arith, at_least_one_lem most)) (λ q. s.list) (on_tree w)
 
     -- or the later stop
@@ -143,8 +143,8 @@ module _ (rs : List ℕ) {nodes pool nodes' pool' : List ℕ} where
 
     -- or refused as the build is
     pub on_refused :
-        {why : Refusal} → OnBuilt rs (rule_count rs) part kept most nodes pool (Refused why) nodes' pool' →
-        TreeBuilt rs nodes pool (built.Refused why) nodes' pool'
+        {why : Refusal} → OnBuilt rs (rule_count rs) part kept most nodes pool (Err why) nodes' pool' →
+        TreeBuilt rs nodes pool (Err why) nodes' pool'
     on_refused w =
         refusal_built _ _ (omega (arith, at_least_one_lem most)) (λ q. s.list)
         (λ q. refused_not_fine (sym q ∙ stop_fine rs j part kept s)) (on_tree w)

@@ -2,10 +2,9 @@
 use Prim.Native.Nat.{ℕ, ◌+◌, ◌-◌, ◌≤◌}
 use native.Mathlib.Omega.{arith}
 use mathlib.Core.Bool.{Bool, true, false}
-use mathlib.Core.Path.{◌≡◌, refl, sym, ap, ◌∙◌}
+use mathlib.Core.Path.{◌≡◌, refl, sym, ◌∙◌}
 use mathlib.Core.List.{List, [], ◌∷◌, ◌++◌, append-nil, append_assoc}
 use lib.ListN.{length, set, length-append}
-use lib.Seq.{length-sets}
 use borrow.Author.Tests.{eq-eqb, ne_eqb}
 use Rattle.facts.specs.Lists.{keep}
 use Rattle.facts.proofs.Setting.{sets_append}
@@ -60,16 +59,7 @@ pub record Storing (all rest before : List ℕ) (n : ℕ) (after : List ℕ) : T
   pub whole : done ++ rest ≡ all
   pub stored : Stored before 0 done n after
 
--- where the loop begins nothing is stored, and all is left
-pub storing_first : (all before : List ℕ) → Storing all all before 0 before
-storing_first all before =
-    record { done = []; whole = refl; stored = record { counts = refl; stores = refl } }
-
 module _ {all rest before after : List ℕ} {n : ℕ} (w : Storing all rest before n after) where
-  -- the lent words stay as many
-  pub storing_size : length after ≡ length before
-  storing_size = ap length w.stored.stores ∙ length-sets before 0 w.done
-
   -- a list that stands in front of what is left is stored behind the others
   pub storing_step :
       {new next last : List ℕ} {m : ℕ} → rest ≡ new ++ next → Stored after n new m last → Storing all next before m last

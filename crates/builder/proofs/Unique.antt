@@ -1,10 +1,12 @@
 -- The paper tells the answers of the build apart, and those of a step, so each promise allows one result and one state
 -- of the lent words (`both_unique`).
+use Rattle.std.specs.Prelude.{Err, Ok}
+use Rattle.builder.specs.Said.{BuiltTree, Stopped, Whole}
 use Prim.Native.Nat.{ℕ, ◌*◌}
 use native.Mathlib.Omega.{arith}
-use mathlib.Core.Path.{◌≡◌, refl, sym, ap}
+use mathlib.Core.Path.{◌≡◌, refl, sym, ap, ◌∙◌}
 use mathlib.Core.List.{List}
-use Rattle.refusals.specs.declared.Verdict.{Verdict}
+use Rattle.refusals.specs.Verdict.{Verdict}
 use Rattle.refusals.specs.Promises.{Apart, WritesBoth, value}
 use Rattle.refusals.proofs.Unique.{on_paper_unique, refusal_not_success}
 use Rattle.refusals.proofs.Promises.{writes_only}
@@ -13,28 +15,29 @@ use Rattle.built.specs.Trees as built
 use Rattle.built.specs.Stops.{up_to}
 use Rattle.built.specs.BuiltTree.{built_tree}
 use Rattle.built.proofs.Laying.{length_laid}
-use Rattle.builder.specs.declared.build.Built.TheVariants.{Refused, Tree}
-use Rattle.builder.specs.declared.step.Step.TheVariants as step
 use Rattle.builder.specs.Build.{paper, step_paper, TreeBuilt, StepBuilt}
 
 -- answers of the build
 pub built_apart : Apart paper
-built_apart (Refused a) (Refused b) e = ap Refused (on_paper_unique a b e)
-built_apart (Refused a) (Tree n p) e = refusal_not_success e
-built_apart (Tree n p) (Refused b) e = refusal_not_success (sym e)
-built_apart (Tree n p) (Tree n' p') e = cc
+built_apart (Err a) (Err b) e = ap Err (on_paper_unique a b e)
+built_apart (Err a) (Ok y) e = refusal_not_success e
+built_apart (Ok x) (Err b) e = refusal_not_success (sym e)
+built_apart (Ok x) (Ok y) e =
+    let n : x.nodes ≡ y.nodes = cc in
+    let p : x.pool ≡ y.pool = cc in
+    ap (λ i. BuiltTree i x.pool) n ∙ ap (BuiltTree y.nodes) p
 
 -- answers of a step
 pub step_apart : Apart step_paper
-step_apart (step.Refused a) (step.Refused b) e = ap step.Refused (on_paper_unique a b e)
-step_apart (step.Refused a) (step.Whole n p) e = refusal_not_success e
-step_apart (step.Refused a) (step.Stopped n p) e = refusal_not_success e
-step_apart (step.Whole n p) (step.Refused b) e = refusal_not_success (sym e)
-step_apart (step.Whole n p) (step.Whole n' p') e = cc
-step_apart (step.Whole n p) (step.Stopped n' p') e = let z : ◌≡◌ {A = ℕ} 0 1 = cc in absurd (omega arith)
-step_apart (step.Stopped n p) (step.Refused b) e = refusal_not_success (sym e)
-step_apart (step.Stopped n p) (step.Whole n' p') e = let z : ◌≡◌ {A = ℕ} 0 1 = cc in absurd (omega arith)
-step_apart (step.Stopped n p) (step.Stopped n' p') e = cc
+step_apart (Err a) (Err b) e = ap Err (on_paper_unique a b e)
+step_apart (Err a) (Whole n p) e = refusal_not_success e
+step_apart (Err a) (Stopped n p) e = refusal_not_success e
+step_apart (Whole n p) (Err b) e = refusal_not_success (sym e)
+step_apart (Whole n p) (Whole n' p') e = cc
+step_apart (Whole n p) (Stopped n' p') e = let z : ◌≡◌ {A = ℕ} 0 1 = cc in absurd (omega arith)
+step_apart (Stopped n p) (Err b) e = refusal_not_success (sym e)
+step_apart (Stopped n p) (Whole n' p') e = let z : ◌≡◌ {A = ℕ} 0 1 = cc in absurd (omega arith)
+step_apart (Stopped n p) (Stopped n' p') e = cc
 
 -- what a promise of the build allows is one answer, and it writes only the words that it counts
 pub build_writes :

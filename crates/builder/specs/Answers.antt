@@ -1,17 +1,15 @@
 -- The answers of the build and of a step, by what growing from the root answers. Definitions only.
-use Rattle.std.specs.Prelude.{true, false}
-use Rattle.builder.specs.declared.build.Built.{Built}
-use Rattle.builder.specs.declared.build.Built.TheVariants as built
+use Rattle.refusals.specs.declared.Refusal.{Refusal}
 use Rattle.builder.specs.declared.step.Step.{Step}
-use Rattle.builder.specs.declared.step.Step.TheVariants as step
 use Rattle.builder.specs.declared.grow.Grown.{Grown}
-use Rattle.builder.specs.declared.grow.Grown.TheVariants as grown
+use Rattle.builder.specs.declared.build.Size.{Size}
+use Rattle.builder.specs.Said.{BuiltTree, Stopped, Whole}
+use Rattle.std.specs.Prelude.{Err, Result, Ok, if◌then◌else◌}
 
-abbrev pub built_of : Grown → Built
-built_of (grown.Refused why) = built.Refused why
-built_of (grown.Part next entries o) = built.Tree next entries
+abbrev pub built_of : Result Grown Refusal → Result Size Refusal
+built_of (Err why) = Err why
+built_of (Ok part) = BuiltTree part.next part.entries
 
-abbrev pub step_of : Grown → Step
-step_of (grown.Refused why) = step.Refused why
-step_of (grown.Part next entries true) = step.Stopped next entries
-step_of (grown.Part next entries false) = step.Whole next entries
+abbrev pub step_of : Result Grown Refusal → Result Step Refusal
+step_of (Err why) = Err why
+step_of (Ok part) = if part.goes_on then Stopped part.next part.entries else Whole part.next part.entries

@@ -10,10 +10,14 @@
 --   at_least_one most     the nodes that a step adds: 0 counts as 1
 --   SomeBuilt rs most     so many nodes of the tree of a list
 --   OnBuilt rs n part kept most    so many nodes more of the tree that is grown from a part, which was made for n rules
-use Rattle.std.specs.Prelude.{ℕ, ◌+◌, max, cond, List, [], ◌∷◌, length, leb}
-use Rattle.refusals.specs.declared.Verdict.{Verdict}
+use Rattle.refusals.specs.declared.Refusal.{Refusal}
+use Rattle.builder.specs.declared.step.Step.{Step}
+use Rattle.builder.specs.declared.build.Size.{Size}
+use Rattle.builder.specs.Said.{Stopped, Whole}
+use Rattle.std.specs.Prelude.{ℕ, ◌+◌, max, cond, List, [], ◌∷◌, length, leb, Err, Result}
+use Rattle.refusals.specs.Verdict.{Verdict}
 use Rattle.refusals.specs.Order.{◌then◌}
-use Rattle.refusals.specs.Paper.{Paper, success, on_paper}
+use Rattle.refusals.specs.Paper.{Paper, success, on_paper, said}
 use Rattle.refusals.specs.Promises.{Writes}
 use Rattle.rules.specs.Good.{list_verdict}
 use Rattle.trees.specs.Words.{node_count}
@@ -24,36 +28,31 @@ use Rattle.built.specs.Layout.{size, pooled, laid}
 use Rattle.built.specs.GrownOn.{tree_on}
 use Rattle.built.specs.Stops.{up_to}
 use Rattle.built.specs.BuiltTree.{built_tree, built_pool, tree_fits, build_verdict}
-use Rattle.builder.specs.declared.build.Built.{Built}
-use Rattle.builder.specs.declared.build.Built.TheVariants as built
-use Rattle.builder.specs.declared.step.Step.{Step}
-use Rattle.builder.specs.declared.step.Step.TheVariants as step
 
 abbrev pub TreeStored :
     {R : Type 0} → (R → Paper) → Verdict → List ℕ → Tree → List ℕ → List ℕ → R → List ℕ → List ℕ → Type 0
 TreeStored paper v values t nodes pool r nodes' pool' =
     Writes paper v values (laid t 0 0) nodes r nodes' × Writes paper v values (pooled t) pool r pool'
 
-abbrev pub paper : Built → Paper
-paper (built.Refused why) = on_paper why
-paper (built.Tree nodes pool) = success (nodes ∷ pool ∷ [])
+abbrev pub paper : Result Size Refusal → Paper
+paper = said (λ tree. tree.nodes ∷ tree.pool ∷ [])
 
 abbrev pub built_values : List ℕ → List ℕ
 built_values rs = size (built_tree rs) ∷ length (built_pool rs) ∷ []
 
-abbrev pub TreeBuilt : List ℕ → List ℕ → List ℕ → Built → List ℕ → List ℕ → Type 0
+abbrev pub TreeBuilt : List ℕ → List ℕ → List ℕ → Result Size Refusal → List ℕ → List ℕ → Type 0
 TreeBuilt rs nodes pool =
     TreeStored paper (build_verdict rs (length nodes) (length pool)) (built_values rs) (built_tree rs) nodes pool
 
-abbrev pub step_paper : Step → Paper
-step_paper (step.Refused why) = on_paper why
-step_paper (step.Whole nodes pool) = success (nodes ∷ pool ∷ 1 ∷ [])
-step_paper (step.Stopped nodes pool) = success (nodes ∷ pool ∷ 0 ∷ [])
+abbrev pub step_paper : Result Step Refusal → Paper
+step_paper (Err why) = on_paper why
+step_paper (Whole nodes pool) = success (nodes ∷ pool ∷ 1 ∷ [])
+step_paper (Stopped nodes pool) = success (nodes ∷ pool ∷ 0 ∷ [])
 
 abbrev pub step_values : ℕ → Tree → List ℕ
 step_values e t = size (up_to e t 0) ∷ length (pooled (up_to e t 0)) ∷ cond (leb (size t) e) 1 0 ∷ []
 
-abbrev pub StepBuilt : Verdict → ℕ → Tree → List ℕ → List ℕ → Step → List ℕ → List ℕ → Type 0
+abbrev pub StepBuilt : Verdict → ℕ → Tree → List ℕ → List ℕ → Result Step Refusal → List ℕ → List ℕ → Type 0
 StepBuilt v e t nodes pool =
     TreeStored step_paper (v then tree_fits (up_to e t 0) (length nodes) (length pool)) (step_values e t) (up_to e t 0)
     nodes pool
@@ -61,9 +60,9 @@ StepBuilt v e t nodes pool =
 abbrev pub at_least_one : ℕ → ℕ
 at_least_one most = max most 1
 
-abbrev pub SomeBuilt : List ℕ → ℕ → List ℕ → List ℕ → Step → List ℕ → List ℕ → Type 0
+abbrev pub SomeBuilt : List ℕ → ℕ → List ℕ → List ℕ → Result Step Refusal → List ℕ → List ℕ → Type 0
 SomeBuilt rs most = StepBuilt (list_verdict rs) (at_least_one most) (built_tree rs)
 
-abbrev pub OnBuilt : List ℕ → ℕ → List ℕ → List ℕ → ℕ → List ℕ → List ℕ → Step → List ℕ → List ℕ → Type 0
+abbrev pub OnBuilt : List ℕ → ℕ → List ℕ → List ℕ → ℕ → List ℕ → List ℕ → Result Step Refusal → List ℕ → List ℕ → Type 0
 OnBuilt rs n part kept most =
     StepBuilt (so_far_verdict rs n part kept) (node_count part + at_least_one most) (tree_on (boxes_of rs) part kept)

@@ -6,7 +6,9 @@
 --                      both outputs where they fit
 --   most_end           no node from here on is grown: a tree has no room for the one before it
 --   end_of k most       where a step stops that begins with k nodes: so many nodes on, but not past that end
-use Rattle.std.specs.Prelude.{ℕ, ◌+◌, ◌*◌, ◌≤◌, min, ◌≡◌, List, length}
+use Rattle.refusals.specs.declared.Refusal.{Refusal}
+use Rattle.builder.specs.declared.grow.Grown.{Grown}
+use Rattle.std.specs.Prelude.{ℕ, ◌+◌, ◌*◌, ◌≤◌, min, ◌≡◌, List, length, Result}
 use Rattle.facts.specs.Lists.{written}
 use Rattle.refusals.specs.Order.{leaving}
 use Rattle.rules.specs.Words.{most_rules}
@@ -16,7 +18,6 @@ use Rattle.tree_check.specs.Whole.{most_cuts}
 use Rattle.built.specs.Trees.{Tree}
 use Rattle.built.specs.Layout.{pooled, laid}
 use Rattle.built.specs.BuiltTree.{tree_fits}
-use Rattle.builder.specs.declared.grow.Grown.{Grown}
 use Rattle.builder.specs.declared.grow.Spot.{Spot}
 use Rattle.builder.specs.declared.grow.Room.{Room}
 use Rattle.builder.specs.BoxWords.{box_count}
@@ -35,7 +36,7 @@ pub record Rooted (ws standing kept : List ℕ) (room : Room) : Type 0 where
   pub nodes : room.nodes ≤ most_nodes * node_words
   pub pool : room.pool ≤ most_pool
 
-pub record RootGrown (t : Tree) (nodes pool : List ℕ) (r : Grown) (nodes' pool' : List ℕ) : Type 0 where
+pub record RootGrown (t : Tree) (nodes pool : List ℕ) (r : Result Grown Refusal) (nodes' pool' : List ℕ) : Type 0 where
   pub answers : r ≡ grown_said (tree_fits t (length nodes) (length pool)) t 0 0
   pub nodes_left :
       nodes' ≡ leaving (tree_fits t (length nodes) (length pool)) (written (laid t 0 0) nodes) nodes

@@ -1,7 +1,7 @@
 // Boxes as words: for each field of each box its low and its high. A box has the number at which it stands.
 ghost use Rattle.std.specs.Prelude.{◌*◌, ◌<◌, ◌≤◌, true, ◌≡◌, length, get_or};
 ghost use Rattle.facts.specs.Lists.{all_under, Kept};
-ghost use Rattle.refusals.specs.declared.Verdict.TheVariants.{Fine};
+ghost use Rattle.refusals.specs.Verdict.{Fine};
 ghost use Rattle.fields.specs.Words.{field_count};
 ghost use Rattle.fields.specs.Ranges.{ranges_meet};
 ghost use Rattle.rules.specs.Words.{rule_count};
@@ -26,11 +26,9 @@ pub(crate) fn fill_boxes(rules: &[u32], out: &mut [u32])
     ensures { BoxesFilled rules.now out.new }
 {
     let sides = rules.len() / RULE_WORDS * FIELDS;
-    let mut i = 0;
-    while i < sides {
+    for i in 0..sides {
         let ends = ends_of(rules, i / FIELDS, i % FIELDS);
         store_all(out, i * ENDS, &ends);
-        i += 1;
     }
 }
 
@@ -42,14 +40,11 @@ pub(crate) fn keep_meeting(boxes: &[u32], above: &[u32], bounds: Bounds, out: &m
         out.new }
 {
     let mut n = 0;
-    let mut i = 0;
-    while i < above.len() {
-        let number = above[i];
+    for &number in above {
         if box_meets(boxes, wide(number), bounds) {
             store(out, n, number);
             n += 1;
         }
-        i += 1;
     }
     n
 }
@@ -59,14 +54,7 @@ fn box_meets(boxes: &[u32], r: usize, bounds: Bounds) -> bool
     requires { r < box_count boxes.now }
     ensures { result ≡ met_by boxes.now bounds r }
 {
-    let mut f = 0;
-    while f < FIELDS {
-        if !side_meets(boxes, r, f, bounds[f]) {
-            return false;
-        }
-        f += 1;
-    }
-    true
+    (0..FIELDS).all(|f| side_meets(boxes, r, f, bounds[f]))
 }
 
 // Whether box `r` meets the range between the two ends in field `f`.

@@ -53,13 +53,15 @@ pub(crate) fn choice_of(
     ensures { result ≡ choice_of cuts field_count (boxes_in boxes.now) standing.now bounds at }
 {
     match node_at(standing, at) {
-        Node::Missing => fresh_choice(boxes, met, bounds, cuts),
-        Node::Leaf { start, count } => Choice::Stands { start, count },
-        Node::Cut {
-            field,
-            value,
-            child: _,
-        } => {
+        None => fresh_choice(boxes, met, bounds, cuts),
+        Some(Node::Leaf { start, count }) => Choice::Stands { start, count },
+        Some(
+            Node::Cut {
+                field,
+                value,
+                child: _,
+            },
+        ) => {
             if cuts == 0 {
                 return Choice::Leaf;
             }
@@ -112,11 +114,9 @@ fn most_in(
     ensures { MostFound (cut_values field_count (boxes_in boxes.now) bounds) field_count result }
 {
     let mut most = values_of(boxes, met, bounds, 0, 0, values, spare);
-    let mut f = 1;
-    while f < FIELDS {
+    for f in 1..FIELDS {
         let next = values_of(boxes, met, bounds, f, most.count, values, spare);
         most = more_of(most, next);
-        f += 1;
     }
     most
 }
@@ -177,9 +177,8 @@ fn store_ends(boxes: &[u32], met: &[u32], bounds: Bounds, f: usize, values: &mut
         (keep (divides bounds f) (all_ends boxes.now f met.now)) result values.new }
 {
     let mut n = 0;
-    let mut i = 0;
-    while i < met.len() {
-        let r = wide(met[i]);
+    for &number in met {
+        let r = wide(number);
         n = store_both(
             values,
             n,
@@ -188,7 +187,6 @@ fn store_ends(boxes: &[u32], met: &[u32], bounds: Bounds, f: usize, values: &mut
             bounds,
             f,
         );
-        i += 1;
     }
     n
 }

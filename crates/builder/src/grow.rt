@@ -15,26 +15,20 @@ use fields::bounds::{Bounds, left_part, right_part};
 use lent::store_all;
 use refusals::Refusal;
 use rules::words::MOST_RULES;
-use trees::words::{LEAF_MARK, NODE_WORDS};
+use trees::words::{LEAF_MARK, NODE_WORDS, store_node};
 
-// What growing a part answers: a refusal; or the node after it, how many entries there are then, and whether it is
-// open, its last part being not begun.
+// What growing a part comes to: the node after it, how many entries there are then, and whether it goes on, its last
+// part being not begun.
 #[derive(Clone, Copy)]
-pub enum Grown {
-    Refused(Refusal),
-    Part {
-        next: usize,
-        entries: usize,
-        open: bool,
-    },
+pub struct Grown {
+    pub next: usize,
+    pub entries: usize,
+    pub goes_on: bool,
 }
 
-// What a part begins with: it is not begun; a node whose words do not fit; a leaf of so many entries; or a cut, where
-// so many boxes meet.
+// What a part begins with: a leaf of so many entries; or a cut, where so many boxes meet.
 #[derive(Clone, Copy)]
 pub enum Look {
-    Bud,
-    Refused(Refusal),
     Leaf {
         count: usize,
     },
@@ -74,61 +68,59 @@ pub(crate) fn grow(
     room: Room,
     nodes: &mut [u32],
     pool: &mut [u32],
-) -> Grown
+) -> Result<Grown, Refusal>
     requires { Growable boxes.now above.now standing.now kept.now bounds spot room }
     ensures { GrownPart
         (grown_at boxes.now standing.now kept.now bounds spot room) spot room
         nodes.old pool.old result nodes.new pool.new }
 {
     let mut met = [0u32; MOST_RULES];
-    match look_at(boxes, above, standing, kept, bounds, spot, room, &mut met) {
-        Look::Bud => Grown::Part {
+    match look_at(boxes, above, standing, kept, bounds, spot, room, &mut met)? {
+        None => Ok(Grown {
             next: spot.node,
             entries: spot.entries,
-            open: true,
-        },
-        Look::Refused(why) => Grown::Refused(why),
-        Look::Leaf { count } => leaf_part(&met[..count], spot, room, nodes, pool),
-        Look::Cut {
-            field,
-            value,
-            count,
-        } => match grow(
-            boxes,
-            &met[..count],
-            standing,
-            kept,
-            left_part(bounds, field, value),
-            left_spot(spot),
-            room,
-            nodes,
-            pool,
-        ) {
-            Grown::Refused(why) => Grown::Refused(why),
-            Grown::Part {
-                next,
-                entries,
-                open: _,
-            } => {
-                store_cut(nodes, spot, field, value, right_child(next, room.end));
-                grow(
-                    boxes,
-                    &met[..count],
-                    standing,
-                    kept,
-                    right_part(bounds, field, value),
-                    right_spot(spot, next, entries),
-                    room,
-                    nodes,
-                    pool,
-                )
-            }
-        },
+            goes_on: true,
+        }),
+        Some(Look::Leaf { count }) => leaf_part(&met[..count], spot, room, nodes, pool),
+        Some(
+            Look::Cut {
+                field,
+                value,
+                count,
+            },
+        ) => {
+            let less = left_part(bounds, field, value);
+            let left = grow(
+                boxes,
+                &met[..count],
+                standing,
+                kept,
+                less,
+                left_spot(spot),
+                room,
+                nodes,
+                pool,
+            )?;
+            let next = left.next;
+            store_cut(nodes, spot, field, value, right_child(next, room.end));
+            let more = right_part(bounds, field, value);
+            grow(
+                boxes,
+                &met[..count],
+                standing,
+                kept,
+                more,
+                right_spot(spot, next, left.entries),
+                room,
+                nodes,
+                pool,
+            )
+        }
     }
 }
 
-// What a part begins with. In front of `met` stand the entries of a leaf, or the numbers of the boxes that meet the box
-// of a cut.
+// What a part begins with, where it is begun. In front of `met` stand the entries of a leaf, or the numbers of the boxes
+// that meet the box of a cut.
 fn look_at(
     boxes: &[u32],
     above: &[u32],
@@ -138,7 +130,7 @@ fn look_at(
     spot: Spot,
     room: Room,
     met: &mut [u32],
-) -> Look
+) -> Result<Option<Look>, Refusal>
     requires { Growable boxes.now above.now standing.now kept.now bounds spot room ×
         (most_rules ≤ length met.old) }
     ensures { Looked boxes.now standing.now kept.now bounds spot room
@@ -146,27 +138,27 @@ fn look_at(
 {
     let at = spot.node;
     if room.end <= at {
-        return Look::Bud;
+        return Ok(None);
     }
     let words = (at + 1) * NODE_WORDS;
     if room.nodes < words {
-        return Look::Refused(Refusal::OutputShort {
+        return Err(Refusal::OutputShort {
             needed: words,
             output: 0,
         });
     }
     let count = keep_meeting(boxes, above, bounds, met);
     match choice_of(boxes, &met[..count], standing, bounds, at, spot.cuts) {
-        Choice::Leaf => Look::Leaf { count },
+        Choice::Leaf => Ok(Some(Look::Leaf { count })),
         Choice::Stands { start, count: long } => {
             copy_entries(kept, start, long, met);
-            Look::Leaf { count: long }
+            Ok(Some(Look::Leaf { count: long }))
         }
-        Choice::Cut { field, value } => Look::Cut {
+        Choice::Cut { field, value } => Ok(Some(Look::Cut {
             field,
             value,
             count,
-        },
+        })),
     }
 }
 
@@ -214,7 +206,13 @@ fn right_child(next: usize, end: usize) -> usize
 }
 
 // A leaf with these entries.
-fn leaf_part(list: &[u32], spot: Spot, room: Room, nodes: &mut [u32], pool: &mut [u32]) -> Grown
+fn leaf_part(
+    list: &[u32],
+    spot: Spot,
+    room: Room,
+    nodes: &mut [u32],
+    pool: &mut [u32],
+) -> Result<Grown, Refusal>
     requires { LeafFits list.now spot room }
     ensures { GrownPart (leaf list.now) spot room nodes.old pool.old result
         nodes.new pool.new }
@@ -223,7 +221,7 @@ fn leaf_part(list: &[u32], spot: Spot, room: Room, nodes: &mut [u32], pool: &mut
     let entries = spot.entries;
     let end = entries + list.len();
     if room.pool < end {
-        return Grown::Refused(Refusal::OutputShort {
+        return Err(Refusal::OutputShort {
             needed: end,
             output: 1,
         });
@@ -231,16 +229,14 @@ fn leaf_part(list: &[u32], spot: Spot, room: Room, nodes: &mut [u32], pool: &mut
     store_node(
         nodes,
         at,
-        LEAF_MARK as u32,
-        entries as u32,
-        list.len() as u32,
+        [LEAF_MARK as u32, entries as u32, list.len() as u32],
     );
     store_all(pool, entries, list);
-    Grown::Part {
+    Ok(Grown {
         next: at + 1,
         entries: end,
-        open: false,
-    }
+        goes_on: false,
+    })
 }
 
 // Stores the words of a cut.
@@ -250,14 +246,5 @@ fn store_cut(nodes: &mut [u32], spot: Spot, field: usize, value: u32, child: usi
         (field ∷ value ∷ child ∷ []) }
 {
     let at = spot.node;
-    store_node(nodes, at, field as u32, value, child as u32);
-}
-
-// Stores the words of node `i`.
-fn store_node(nodes: &mut [u32], i: usize, first: u32, second: u32, third: u32)
-    requires { i < most_nodes }
-    ensures { nodes.new ≡ sets nodes.old (i * node_words) (first ∷ second ∷ third ∷ []) }
-{
-    let words = [first, second, third];
-    store_all(nodes, i * NODE_WORDS, &words);
+    store_node(nodes, at, [field as u32, value, child as u32]);
 }

@@ -1,8 +1,7 @@
 // A list's tree from its root: it is grown into words of its own, from the nodes that stand already, and its words are
 // stored where all of them fit.
-ghost use Rattle.std.specs.Prelude.{◌≤◌, ◌^◌, min, ◌≡◌, length};
-ghost use Rattle.facts.specs.Lists.{up_from};
-ghost use Rattle.refusals.specs.declared.Verdict.TheVariants.{Fine};
+ghost use Rattle.std.specs.Prelude.{◌≤◌, ◌≡◌};
+ghost use Rattle.refusals.specs.Verdict.{Fine};
 ghost use Rattle.rules.specs.Words.{most_rules, rule_count};
 ghost use Rattle.rules.specs.Good.{list_verdict};
 ghost use Rattle.trees.specs.Spelt.{Spelt};
@@ -17,7 +16,9 @@ use crate::boxes::{BOX_WORDS, fill_boxes};
 use crate::grow::{Grown, Room, Spot, grow};
 use fields::bounds::root_box;
 use lent::store_all;
+use refusals::Refusal;
 use rules::words::{MOST_RULES, RULE_WORDS};
+use std::array;
 use tree_check::check::MOST_CUTS;
 use trees::words::{MOST_NODES, MOST_POOL, NODE_WORDS};
 
@@ -29,7 +30,7 @@ pub(crate) fn grow_list(
     end: usize,
     nodes: &mut [u32],
     pool: &mut [u32],
-) -> Grown
+) -> Result<Grown, Refusal>
     requires { (list_verdict rules.now ≡ Fine) × Spelt (rule_count rules.now) standing.now kept.now }
     ensures { RootGrown
         (up_to end (tree_on (boxes_of rules.now) standing.now kept.now) 0)
@@ -49,7 +50,7 @@ fn grow_boxes(
     end: usize,
     nodes: &mut [u32],
     pool: &mut [u32],
-) -> Grown
+) -> Result<Grown, Refusal>
     requires { (box_count boxes.now ≤ most_rules) × Spelt (box_count boxes.now) standing.now kept.now }
     ensures { RootGrown
         (up_to end (tree_on (boxes_in boxes.now) standing.now kept.now) 0)
@@ -58,23 +59,12 @@ fn grow_boxes(
     let room = room_of(nodes.len(), pool.len(), end);
     let mut words = [0u32; MOST_NODES * NODE_WORDS];
     let mut list = [0u32; MOST_POOL];
-    match grow_root(boxes, standing, kept, room, &mut words, &mut list) {
-        Grown::Refused(why) => Grown::Refused(why),
-        Grown::Part {
-            next,
-            entries,
-            open,
-        } => {
-            let count = next * NODE_WORDS;
-            store_all(nodes, 0, &words[..count]);
-            store_all(pool, 0, &list[..entries]);
-            Grown::Part {
-                next,
-                entries,
-                open,
-            }
-        }
-    }
+    let grown = grow_root(boxes, standing, kept, room, &mut words, &mut list)?;
+    let count = grown.next * NODE_WORDS;
+    let entries = grown.entries;
+    store_all(nodes, 0, &words[..count]);
+    store_all(pool, 0, &list[..entries]);
+    Ok(grown)
 }
 
 // The tree of the root's box: every box may meet it.
@@ -85,14 +75,13 @@ fn grow_root(
     room: Room,
     nodes: &mut [u32],
     pool: &mut [u32],
-) -> Grown
+) -> Result<Grown, Refusal>
     requires { Rooted boxes.now standing.now kept.now room }
     ensures { GrownPart
         (up_to room.end (tree_on (boxes_in boxes.now) standing.now kept.now) 0)
         root_spot room nodes.old pool.old result nodes.new pool.new }
 {
-    let mut all = [0u32; MOST_RULES];
-    count_up(&mut all);
+    let all: [u32; MOST_RULES] = array::from_fn(|i| i as u32);
     let count = boxes.len() / BOX_WORDS;
     grow(
         boxes,
@@ -123,30 +112,8 @@ fn room_of(nodes: usize, pool: usize, end: usize) -> Room
     ensures { result ≡ room_of nodes pool end }
 {
     Room {
-        nodes: smaller(nodes, MOST_NODES * NODE_WORDS),
-        pool: smaller(pool, MOST_POOL),
+        nodes: nodes.min(MOST_NODES * NODE_WORDS),
+        pool: pool.min(MOST_POOL),
         end,
-    }
-}
-
-// The smaller of two numbers.
-fn smaller(a: usize, b: usize) -> usize
-    ensures { result ≡ min a b }
-{
-    if a < b {
-        return a;
-    }
-    b
-}
-
-// Stores the numbers from 0 on.
-fn count_up(out: &mut [u32])
-    requires { length out.old ≤ 2 ^ 32 }
-    ensures { out.new ≡ up_from 0 (length out.old) }
-{
-    let mut i = 0;
-    while i < out.len() {
-        out[i] = i as u32;
-        i += 1;
     }
 }

@@ -1,4 +1,5 @@
 -- A whole tree that covers the rules, and fits in some room, is accepted by the tree check, and so it may serve.
+use Rattle.tree_check.specs.Said.{Complete}
 use Prim.Native.Nat.{ℕ, ◌*◌, ◌≤◌, ◌<◌, min}
 use native.Mathlib.Nat.{min-le_right, zero-add}
 use native.Mathlib.Omega.{arith}
@@ -7,12 +8,11 @@ use mathlib.Core.Path.{◌≡◌}
 use mathlib.Core.Logic.{◌↔◌}
 use mathlib.Core.List.{List}
 use lib.ListN.{length}
-use Rattle.refusals.specs.declared.Verdict.TheVariants.{Fine}
+use Rattle.refusals.specs.Verdict.{Fine}
 use Rattle.fields.specs.Boxes.{root_box}
 use Rattle.rules.specs.Good.{list_verdict}
 use Rattle.trees.specs.Words.{node_words, most_nodes, most_pool, node_count, size_verdict}
 use Rattle.trees.proofs.Sizes.{sizes_fine_iff}
-use Rattle.tree_check.specs.declared.preorder.Lack.TheVariants.{Complete}
 use Rattle.tree_check.specs.Whole.{most_cuts}
 use Rattle.tree_check.specs.TreeCheck.{root_part, check_verdict}
 use Rattle.tree_check.specs.Serves.{Serves}

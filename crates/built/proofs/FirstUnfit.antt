@@ -11,8 +11,8 @@ use borrow.Author.Tests.{lt-leb}
 use Rattle.facts.proofs.Cases.{WithinOrOver, at_most, over, within_or_over}
 use Rattle.refusals.specs.declared.Refusal.{Refusal}
 use Rattle.refusals.specs.declared.Refusal.TheVariants.{OutputShort}
-use Rattle.refusals.specs.declared.Verdict.{Verdict}
-use Rattle.refusals.specs.declared.Verdict.TheVariants.{Fine, Refused}
+use Rattle.refusals.specs.Verdict.{Verdict}
+use Rattle.refusals.specs.Verdict.{Fine, Refused}
 use Rattle.refusals.specs.Order.{◌then◌}
 use Rattle.refusals.proofs.Order.{refused_not_fine, fails_refused, then_fine, then_refused, then_fine_iff}
 use Rattle.refusals.proofs.Turns.{lowest_of_turns, turns_of_lowest}

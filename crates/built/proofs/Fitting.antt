@@ -5,7 +5,7 @@ use mathlib.Core.Path.{◌≡◌, refl}
 use mathlib.Core.Logic.{◌↔◌}
 use lib.ListN.{length}
 use borrow.Author.Tests.{leb-true, le-leb}
-use Rattle.refusals.specs.declared.Verdict.TheVariants.{Fine}
+use Rattle.refusals.specs.Verdict.{Fine}
 use Rattle.refusals.proofs.Order.{fine_iff_holds, then_fine_iff}
 use Rattle.trees.specs.Words.{node_words}
 use Rattle.built.specs.Trees.{Tree, bud, leaf, cut}

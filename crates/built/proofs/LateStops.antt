@@ -7,7 +7,7 @@ use mathlib.Core.Logic.{◌⊎◌, inl, inr}
 use lib.ListN.{length}
 use Rattle.facts.proofs.Cases.{WithinOrOver, at_most, over, within_or_over}
 use Rattle.refusals.specs.declared.Refusal.{Refusal}
-use Rattle.refusals.specs.declared.Verdict.TheVariants.{Fine, Refused}
+use Rattle.refusals.specs.Verdict.{Fine, Refused}
 use Rattle.refusals.specs.Order.{◌then◌}
 use Rattle.refusals.proofs.Order.{refused_not_fine, then_refused, then_cases}
 use Rattle.refusals.proofs.Splitting.{then_same}

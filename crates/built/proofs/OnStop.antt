@@ -20,7 +20,7 @@ use Rattle.built.proofs.Chosen.{chosen_there, chosen_divides}
 use Rattle.built.proofs.GrownTrees.{grown_zero, grown_stops, grown_divided}
 use Rattle.built.proofs.GrowingOn.{on_missing, on_leaf, on_deep, on_cut}
 use Rattle.built.proofs.Lying.{Lies, a_leaf, a_cut}
-use Rattle.built.proofs.Stopping.{up_to_end, up_to_leaf, up_to_cut, up_to_whole}
+use Rattle.built.proofs.Stopping.{up_to_leaf, up_to_cut, up_to_whole}
 
 -- ---- the first node of a tree that is grown from nodes that stand
 

@@ -1,4 +1,7 @@
 -- A part that is taken: the tree that is grown from it covers the rules.
+use Rattle.tree_check.specs.declared.preorder.Lack.{Lack}
+use Rattle.tree_check.specs.Said.{Complete}
+use Rattle.std.specs.Prelude.{Option}
 use Prim.Native.Nat.{ℕ, suc, ◌+◌, ◌≤◌, ◌<◌}
 use native.Mathlib.Omega.{arith}
 use mathlib.Core.Bool.{true, false}
@@ -13,8 +16,6 @@ use Rattle.fields.proofs.Cuts.{divides_iff, left_divided, right_divided}
 use Rattle.rules.specs.Words.{rule_count}
 use Rattle.trees.specs.Words.{leaf_mark, node_count, field_of, value_of, start_of, count_of, entries}
 use Rattle.trees.specs.Spelt.{SpeltLeaf, Spelt}
-use Rattle.tree_check.specs.declared.preorder.Lack.{Lack}
-use Rattle.tree_check.specs.declared.preorder.Lack.TheVariants.{Complete}
 use Rattle.tree_check.specs.Leads.{left_box, right_box, Divides}
 use Rattle.tree_check.proofs.Built.{Built, of_none, of_leaf, of_cut, built_forward}
 use Rattle.tree_check.proofs.FirstLack.{earlier_iff}
@@ -125,7 +126,7 @@ module _ (rs nodes pool : List ℕ) where
   module _ (spelt : Spelt (rule_count rs) nodes pool) where
     -- what the check so far accepts without a lack grows so
     pub built_grows :
-        {k : ℕ} {b : List (List ℕ)} {i e c l : ℕ} {z : Lack} → Built true rs nodes pool k b i e c l z →
+        {k : ℕ} {b : List (List ℕ)} {i e c l : ℕ} {z : Option Lack} → Built true rs nodes pool k b i e c l z →
         z ≡ Complete → PartGrows k b i e
     built_grows (of_none {k = k} {b = b} {i = i} q a) f = missing_grows k b i a
     built_grows (of_leaf {k = k} {b = b} {i = i} a m r) f =

@@ -1,27 +1,26 @@
 -- The tree that is grown from a part that is taken begins with the part: its first nodes lie in the part's own words,
 -- and so do their entries.
-use Prim.Native.Nat.{ℕ, suc, ◌+◌, ◌*◌, ◌≤◌, ◌<◌}
+use Rattle.tree_check.specs.declared.preorder.Lack.{Lack}
+use Rattle.tree_check.specs.Said.{Complete}
+use Rattle.std.specs.Prelude.{Option}
+use Prim.Native.Nat.{ℕ, suc, ◌+◌, ◌≤◌, ◌<◌}
 use native.Mathlib.Omega.{arith}
-use mathlib.Core.Bool.{true, cond}
-use mathlib.Core.Path.{◌≡◌, refl, sym, ap, subst, ◌∙◌}
+use mathlib.Core.Bool.{true}
+use mathlib.Core.Path.{◌≡◌, refl, sym, ap, ◌∙◌}
 use mathlib.Core.List.{List}
 use lib.ListN.{length}
-use lib.Dec.{ltb}
-use borrow.Author.Tests.{lt-ltb, le-ltb}
+use borrow.Author.Tests.{le-ltb}
 use Rattle.facts.proofs.Cases.{WithinOrOver, at_most, over, within_or_over}
 use Rattle.fields.specs.Words.{field_count}
-use Rattle.fields.specs.Boxes.{root_box}
 use Rattle.rules.specs.Words.{rule_count}
-use Rattle.trees.specs.Words.{leaf_mark, node_words, node_count, field_of, value_of, child_of, entries}
+use Rattle.trees.specs.Words.{leaf_mark, node_count, field_of, value_of, child_of, entries}
 use Rattle.trees.specs.Spelt.{counts_below, Spelt}
-use Rattle.tree_check.specs.declared.preorder.Lack.{Lack}
-use Rattle.tree_check.specs.declared.preorder.Lack.TheVariants.{Complete}
 use Rattle.tree_check.specs.Preorder.{child_at}
 use Rattle.tree_check.specs.Leads.{left_box, right_box, Divides}
 use Rattle.tree_check.proofs.Built.{Built, of_none, of_leaf, of_cut, built_forward}
 use Rattle.tree_check.proofs.FirstLack.{earlier_iff}
 use Rattle.built.specs.Boxes.{boxes_of}
-use Rattle.built.specs.Trees.{Tree, bud, leaf, cut}
+use Rattle.built.specs.Trees.{Tree}
 use Rattle.built.specs.Layout.{size, pooled, right_child}
 use Rattle.built.specs.GrownOn.{grown_on}
 use Rattle.built.specs.Stops.{up_to, child_before}
@@ -138,7 +137,7 @@ module _ (rs nodes pool : List ℕ) where
 
     -- what is grown from a part that is taken lies in the part's words, as far as these go
     pub built_kept :
-        {k : ℕ} {b : List (List ℕ)} {i e c l : ℕ} {z : Lack} → Built true rs nodes pool k b i e c l z →
+        {k : ℕ} {b : List (List ℕ)} {i e c l : ℕ} {z : Option Lack} → Built true rs nodes pool k b i e c l z →
         z ≡ Complete → i ≤ node_count nodes → (s : ℕ) → counts_below nodes i ≡ s →
         Lies nodes pool (up_to (node_count nodes) (grown_on k field_count (boxes_of rs) nodes pool b i) i) i s
     built_kept (of_none {k = k} {b = b} {i = i} q a) f h = bud_kept k b i (omega arith)

@@ -1,19 +1,19 @@
 -- What is grown from a part that is taken: it covers the rules, and it begins with the part's own words.
-use Prim.Native.Nat.{ℕ, ◌+◌, ◌*◌, ◌≤◌}
+use Rattle.tree_check.specs.Said.{Complete}
+use Prim.Native.Nat.{ℕ, ◌+◌, ◌≤◌}
 use native.Mathlib.Nat.{zero-add}
 use native.Mathlib.Omega.{arith}
-use mathlib.Core.Bool.{true, false}
-use mathlib.Core.Path.{◌≡◌, refl, sym, ◌∙◌}
+use mathlib.Core.Bool.{false}
+use mathlib.Core.Path.{◌≡◌, refl, sym}
 use mathlib.Core.List.{List}
 use lib.ListN.{length}
-use Rattle.refusals.specs.declared.Verdict.TheVariants.{Fine}
+use Rattle.refusals.specs.Verdict.{Fine}
 use Rattle.fields.specs.Words.{field_count}
 use Rattle.fields.specs.Boxes.{root_box}
-use Rattle.trees.specs.Words.{node_words, node_count}
+use Rattle.trees.specs.Words.{node_count}
 use Rattle.trees.specs.Spelt.{counts_below}
 use Rattle.trees.proofs.Sizes.{sizes_fine_iff}
 use Rattle.trees.proofs.LeafSpelling.{counts_first}
-use Rattle.tree_check.specs.declared.preorder.Lack.TheVariants.{Complete}
 use Rattle.tree_check.specs.Whole.{most_cuts}
 use Rattle.tree_check.specs.PartCheck.{so_far_verdict}
 use Rattle.tree_check.proofs.PartStages.{Taken, part_taken, taken_built}

@@ -1,5 +1,6 @@
 -- A tree that covers the rules passes the preorder check, wherever it lies, and lacks nothing; and so does one that
 -- covers them so far, parts of it being not begun.
+use Rattle.tree_check.specs.Said.{Complete, Good}
 use Prim.Native.Nat.{ℕ, suc, ◌+◌, ◌≤◌, ◌<◌, max}
 use native.Mathlib.Omega.{arith}
 use mathlib.Core.Bool.{Bool, true, false}
@@ -11,8 +12,6 @@ use Rattle.fields.specs.Words.{field_count}
 use Rattle.fields.specs.Cuts.{divides, left_of, right_of}
 use Rattle.rules.proofs.Lacks.{none_lacking_iff}
 use Rattle.trees.specs.Words.{leaf_mark, node_count, field_of, value_of, child_of, entries}
-use Rattle.tree_check.specs.declared.preorder.Lack.TheVariants.{Complete}
-use Rattle.tree_check.specs.declared.preorder.Part.TheVariants.{Good}
 use Rattle.tree_check.specs.Preorder.{child_at, leaf_part, preorder_of}
 use Rattle.tree_check.proofs.Parts.{preorder_missing, preorder_leaf, preorder_divided}
 use Rattle.tree_check.proofs.Leaves.{entries_rise, lack_none}
@@ -33,7 +32,7 @@ listed_leaf :
     leaf_part rs l b i ≡ Good (i + 1) 0 (length l) Complete
 listed_leaf rs b l i w =
     let none = (none_lacking_iff rs l b).1 w.none_lacking in
-    sym (entries_rise rs l b i (sym w.rising) refl (lack_none rs l b i refl (omega arith)))
+    sym (entries_rise rs l b i (sym w.rising) refl (lack_none rs l b i (omega arith)))
 
 -- a right part that is there begins at the right child, and one that is not begun has 0
 child_there : (far : Bool) (m j : ℕ) → j < m → child_at far m j ≡ j

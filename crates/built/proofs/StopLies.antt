@@ -1,8 +1,7 @@
 -- What is grown of a full tree before a node lies in its words.
-use Prim.Native.Nat.{ℕ, ◌+◌, ◌≤◌, ◌<◌}
+use Prim.Native.Nat.{ℕ, ◌+◌, ◌≤◌}
 use native.Mathlib.Omega.{arith}
 use mathlib.Core.Path.{◌≡◌}
-use mathlib.Core.List.{List}
 use Rattle.facts.proofs.Cases.{WithinOrOver, at_most, over, within_or_over}
 use Rattle.built.specs.Trees.{Tree, leaf, cut}
 use Rattle.built.specs.Layout.{size, pooled, laid}

@@ -1,15 +1,15 @@
 -- A stop is taken: the words of what is grown before a node, of a tree that covers the rules, may be gone on with.
+use Rattle.tree_check.specs.Said.{Complete}
 use Prim.Native.Nat.{ℕ}
 use native.Mathlib.Nat.{zero-add}
 use mathlib.Core.Bool.{true, false}
 use mathlib.Core.Path.{◌≡◌, refl}
 use mathlib.Core.List.{List}
-use Rattle.refusals.specs.declared.Verdict.TheVariants.{Fine}
+use Rattle.refusals.specs.Verdict.{Fine}
 use Rattle.fields.specs.Boxes.{root_box}
 use Rattle.rules.specs.Words.{rule_count}
 use Rattle.rules.specs.Good.{list_verdict}
 use Rattle.trees.specs.Words.{node_count, size_verdict}
-use Rattle.tree_check.specs.declared.preorder.Lack.TheVariants.{Complete}
 use Rattle.tree_check.specs.Whole.{most_cuts}
 use Rattle.tree_check.specs.PartCheck.{so_far_verdict}
 use Rattle.tree_check.proofs.PartStages.{Taken, taken_decides}

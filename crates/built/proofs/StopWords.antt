@@ -1,29 +1,23 @@
 -- The words that a stop is to have, and its nodes one by one: a leaf as it is, and a cut with 0 for a right child that
 -- is not among the nodes before the stop.
-use Prim.Native.Nat.{ℕ, zero, suc, ◌+◌, ◌*◌, ◌≤◌, ◌<◌}
-use native.Mathlib.Nat.{zero-add}
-use native.Mathlib.Numerals.{add-one}
+use Prim.Native.Nat.{ℕ, zero, suc, ◌+◌, ◌*◌, ◌<◌}
 use native.Mathlib.Omega.{arith}
-use mathlib.Core.Bool.{Bool, true, false, cond, ◌&&◌}
-use mathlib.Core.Path.{◌≡◌, refl, sym, ap, ◌∙◌}
-use mathlib.Core.List.{List, [], ◌++◌}
-use lib.ListN.{length, get_or, take, length-append, get_or-append}
+use mathlib.Core.Bool.{true, cond, ◌&&◌}
+use mathlib.Core.Path.{◌≡◌, refl, sym, ◌∙◌}
+use mathlib.Core.List.{List, ◌++◌}
+use lib.ListN.{length, get_or, length-append, get_or-append}
 use lib.Seq.{get_or-append-add}
-use lib.Dec.{leb, ltb}
+use lib.Dec.{leb}
 use borrow.Author.Tests.{lt-ltb, le-ltb, lt-leb, le-leb}
 use Rattle.facts.proofs.Cases.{Order, below, same, above, order, WithinOrOver, at_most, over, within_or_over}
-use Rattle.trees.specs.Words.{node_words, leaf_mark, node_count, field_of, value_of, child_of}
-use Rattle.trees.specs.Spelt.{is_cut, leaf_count, counts_below}
-use Rattle.trees.proofs.LeafSpelling.{counts_first, counts_step}
+use Rattle.trees.specs.Words.{node_words, leaf_mark, field_of, value_of, child_of}
+use Rattle.trees.specs.Spelt.{is_cut}
 use Rattle.built.specs.Trees.{Tree, leaf, cut}
-use Rattle.built.specs.Layout.{size, pooled, laid, right_child}
-use Rattle.built.specs.Stops.{up_to, child_before, stop_node, nodes_below, stop_nodes, stop_pool}
+use Rattle.built.specs.Layout.{size}
+use Rattle.built.specs.Stops.{up_to, child_before, stop_node, nodes_below}
 use Rattle.built.proofs.Laying.{right_child_lem}
 use Rattle.built.proofs.Lying.{Lies, a_leaf, a_cut}
-use Rattle.built.proofs.Stopping.{up_to_end, up_to_leaf, up_to_cut, up_to_whole, up_to_size, up_to_child}
-use Rattle.built.proofs.Covering.{Covers, by_bud, by_leaf, by_cut, covers_full}
-use Rattle.built.proofs.FullTrees.{full_some}
-use Rattle.built.proofs.SameWords.{SameNode, nodes_same}
+use Rattle.built.proofs.Stopping.{up_to_whole, up_to_size, up_to_child}
 
 -- ---- the words that are defined
 

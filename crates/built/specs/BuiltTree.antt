@@ -6,7 +6,7 @@
 --                         or the limits of a tree
 --   build_verdict rs a b  1, 2, 11, then that
 use Rattle.std.specs.Prelude.{ℕ, ◌*◌, min, List}
-use Rattle.refusals.specs.declared.Verdict.{Verdict}
+use Rattle.refusals.specs.Verdict.{Verdict}
 use Rattle.refusals.specs.Order.{◌then◌}
 use Rattle.fields.specs.Words.{field_count}
 use Rattle.fields.specs.Boxes.{root_box}

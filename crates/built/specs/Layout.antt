@@ -8,8 +8,8 @@
 --   fits t i s a b     each node in preorder: its words, and then, of a leaf, the entries so far
 use Rattle.std.specs.Prelude.{ℕ, ◌+◌, ◌*◌, List, [], ◌∷◌, ◌++◌, length, leb}
 use Rattle.refusals.specs.declared.Refusal.TheVariants.{OutputShort}
-use Rattle.refusals.specs.declared.Verdict.{Verdict}
-use Rattle.refusals.specs.declared.Verdict.TheVariants.{Fine}
+use Rattle.refusals.specs.Verdict.{Verdict}
+use Rattle.refusals.specs.Verdict.{Fine}
 use Rattle.refusals.specs.Order.{refuse_unless, ◌then◌}
 use Rattle.trees.specs.Words.{node_words, leaf_mark}
 use Rattle.built.specs.Trees.{Tree, bud, leaf, cut}

@@ -3,7 +3,7 @@
 --                             its first k nodes, with 0 for each right child that is k or more, and their entries;
 --                             and they are no more than a tree may have
 use Rattle.std.specs.Prelude.{ℕ, ◌<◌, ◌≡◌, List}
-use Rattle.refusals.specs.declared.Verdict.TheVariants.{Fine}
+use Rattle.refusals.specs.Verdict.{Fine}
 use Rattle.rules.specs.Good.{list_verdict}
 use Rattle.trees.specs.Words.{size_verdict}
 use Rattle.built.specs.Layout.{size}

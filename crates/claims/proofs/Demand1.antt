@@ -2,11 +2,11 @@
 use mathlib.Core.Path.{refl}
 use Rattle.facts.proofs.Equations.{equation_unique}
 use Rattle.refusals.proofs.Promises.{says_unique, writes_unique, both_unique, writes_only}
-use Rattle.rules.proofs.Unique.{checked_apart, listed_apart, first_apart, missed_apart}
+use Rattle.refusals.proofs.Unique.{counted_apart}
+use Rattle.rules.proofs.Unique.{first_apart}
 use Rattle.trees.proofs.Unique as trees
 use Rattle.tree_check.proofs.Unique.{answer_apart}
 use Rattle.text.specs.Words.{tree_word, part_word}
-use Rattle.text.proofs.Said.{written_apart}
 use Rattle.rule_file.specs.RuleText.{rules_in}
 use Rattle.rule_file.proofs.ReadAnswers.{read_apart as rules_apart}
 use Rattle.tree_file.proofs.ReadAnswers.{read_apart as tree_apart}
@@ -66,60 +66,60 @@ code_claim = (
 pub calls_claim : Calls
 calls_claim =
     record {
-      rule_check = λ rs r s p q. says_unique checked_apart p q;
-      line_all = λ rs h w. writes_only listed_apart (λ r a p. p) (λ e. refl);
+      rule_check = λ rs r s p q. says_unique counted_apart p q;
+      line_all = λ rs h w. writes_only counted_apart (λ r a p. p) (λ e. refl);
       line_first = λ rs h r s p q. says_unique first_apart p q;
-      scan_all = λ rs h w. writes_only listed_apart (λ r a p. p) (λ e. refl);
+      scan_all = λ rs h w. writes_only counted_apart (λ r a p. p) (λ e. refl);
       scan_first = λ rs h r s p q. says_unique first_apart p q;
-      rule_misses = λ rs h n r s p q. says_unique missed_apart p q;
+      rule_misses = λ rs h n r s p q. says_unique counted_apart p q;
       tree_all = λ rs ns es h w. writes_only trees.listed_apart (λ r a p. p) (λ e. refl);
       tree_first = λ rs ns es h r s p q. says_unique trees.first_apart p q;
       tree_check = λ rs ns es r s p q. says_unique answer_apart p q;
       part_check = λ rs n ns es r s p q. equation_unique p q;
-      rules_write = λ rs w. writes_only written_apart (λ r a p. p) (λ e. refl);
-      acl_write = λ rs w. writes_only written_apart (λ r a p. p) (λ e. refl);
+      rules_write = λ rs w. writes_only counted_apart (λ r a p. p) (λ e. refl);
+      acl_write = λ rs w. writes_only counted_apart (λ r a p. p) (λ e. refl);
       rules_read = λ s w. writes_only rules_apart (λ r a p. p) (λ e. words_whole s (rules_in s) refl);
-      tree_write = λ k ns es w. writes_only written_apart (λ r a p. p) (λ e. refl);
+      tree_write = λ k ns es w. writes_only counted_apart (λ r a p. p) (λ e. refl);
       tree_read = read_writes tree_word;
-      part_write = λ k ns es w. writes_only written_apart (λ r a p. p) (λ e. refl);
+      part_write = λ k ns es w. writes_only counted_apart (λ r a p. p) (λ e. refl);
       part_read = read_writes part_word;
       build = build_writes;
       build_some = λ rs most ns es. step_writes _ _ _ ns es;
       build_on = λ rs n part kept most ns es. step_writes _ _ _ ns es;
-      reply = λ by rs ns es k l w. writes_only written_apart (λ r a p. p) (λ e. refl);
+      reply = λ by rs ns es k l w. writes_only counted_apart (λ r a p. p) (λ e. refl);
       feed = λ by rs ns es g bs w r s x y p q. fed_unique p q;
       feed_why = λ rs n g bs w r s x y p q. fed_unique p q;
-      last_reply = λ g w. writes_only written_apart (λ r a p. p) (λ e. refl);
-      take_list = λ f w. writes_only policy.listed_apart (λ r a p. p) (λ e. refl);
+      last_reply = λ g w. writes_only counted_apart (λ r a p. p) (λ e. refl);
+      take_list = λ f w. writes_only counted_apart (λ r a p. p) (λ e. refl);
       take_tree = λ f ns es. (
         writes_only policy.taken_apart (λ r a p. p.1.0) (λ e. refl),
         writes_only policy.taken_apart (λ r a p. p.1.1) (λ e. refl),
       );
       who_serves = λ t rs ns es r s p q. equation_unique p q;
-      verdict_line = λ v w. writes_only written_apart (λ r a p. p) (λ e. refl);
-      compile_text = λ rs w. writes_only written_apart (λ r a p. p) (λ e. refl);
+      verdict_line = λ v w. writes_only counted_apart (λ r a p. p) (λ e. refl);
+      compile_text = λ rs w. writes_only counted_apart (λ r a p. p) (λ e. refl);
       take_part = λ f ns es. (
         writes_only policy.begun_apart (λ r a p. p.1.0) (λ e. refl),
         writes_only policy.begun_apart (λ r a p. p.1.1) (λ e. refl),
       );
       goes_on = λ t rs ns es r s p q. equation_unique p q;
-      some_text = λ rs most w. writes_only written_apart (λ r a p. p) (λ e. refl);
-      on_text = λ rs n part kept most w. writes_only written_apart (λ r a p. p) (λ e. refl);
-      wick_rule_check = λ rs. tells (λ r t p q. says_unique checked_apart p q);
-      wick_line_all = λ rs h w. tells_one (λ r t x y p q. writes_unique listed_apart p q);
+      some_text = λ rs most w. writes_only counted_apart (λ r a p. p) (λ e. refl);
+      on_text = λ rs n part kept most w. writes_only counted_apart (λ r a p. p) (λ e. refl);
+      wick_rule_check = λ rs. tells (λ r t p q. says_unique counted_apart p q);
+      wick_line_all = λ rs h w. tells_one (λ r t x y p q. writes_unique counted_apart p q);
       wick_line_first = λ rs h. tells (λ r t p q. says_unique first_apart p q);
-      wick_scan_all = λ rs h w. tells_one (λ r t x y p q. writes_unique listed_apart p q);
+      wick_scan_all = λ rs h w. tells_one (λ r t x y p q. writes_unique counted_apart p q);
       wick_scan_first = λ rs h. tells (λ r t p q. says_unique first_apart p q);
-      wick_rule_misses = λ rs h n. tells (λ r t p q. says_unique missed_apart p q);
+      wick_rule_misses = λ rs h n. tells (λ r t p q. says_unique counted_apart p q);
       wick_tree_all = λ rs ns es h w. tells_one (λ r t x y p q. writes_unique trees.listed_apart p q);
       wick_tree_first = λ rs ns es h. tells (λ r t p q. says_unique trees.first_apart p q);
       wick_tree_check = λ rs ns es. tells (λ r t p q. says_unique answer_apart p q);
-      wick_rules_write = λ rs w. tells_one (λ r t x y p q. writes_unique written_apart p q);
-      wick_acl_write = λ rs w. tells_one (λ r t x y p q. writes_unique written_apart p q);
+      wick_rules_write = λ rs w. tells_one (λ r t x y p q. writes_unique counted_apart p q);
+      wick_acl_write = λ rs w. tells_one (λ r t x y p q. writes_unique counted_apart p q);
       wick_rules_read = λ s w. tells_one (λ r t x y p q. writes_unique rules_apart p q);
-      wick_tree_write = λ k ns es w. tells_one (λ r t x y p q. writes_unique written_apart p q);
+      wick_tree_write = λ k ns es w. tells_one (λ r t x y p q. writes_unique counted_apart p q);
       wick_tree_read = λ s ns es. tells_both (λ r t u v x y p q. both_unique tree_apart p q);
-      wick_part_write = λ k ns es w. tells_one (λ r t x y p q. writes_unique written_apart p q);
+      wick_part_write = λ k ns es w. tells_one (λ r t x y p q. writes_unique counted_apart p q);
       wick_part_read = λ s ns es. tells_both (λ r t u v x y p q. both_unique tree_apart p q);
       wick_build = λ rs ns es. tells_both (λ r t u v x y p q. both_unique built_apart p q);
       wick_build_some = λ rs most ns es. tells_both (λ r t u v x y p q. both_unique step_apart p q);

@@ -2,7 +2,7 @@
 use Prim.Native.Nat.{ℕ}
 use mathlib.Core.Path.{◌≡◌, refl, sym}
 use mathlib.Core.List.{List}
-use Rattle.refusals.specs.declared.Verdict.TheVariants.{Fine}
+use Rattle.refusals.specs.Verdict.{Fine}
 use Rattle.fields.specs.Headers.{Legal}
 use Rattle.rules.specs.Good.{list_verdict}
 use Rattle.rules.proofs.Comparing.{five_iff, five_iff_listed, lower_iff, no_rule_iff}

@@ -5,7 +5,7 @@ use mathlib.Core.List.{List}
 use Rattle.facts.specs.Below.{all_below, lowest}
 use Rattle.facts.specs.Lists.{up_from, keep, has, rises, all_under, written}
 use Rattle.refusals.specs.Order.{refuse_unless, room_verdict, ◌then◌, in_turn, ◌giving◌, leaving}
-use Rattle.refusals.specs.declared.Verdict.{Verdict}
+use Rattle.refusals.specs.Verdict.{Verdict}
 use Rattle.refusals.specs.Paper.{Paper}
 use Rattle.refusals.specs.Promises.{Says, Writes}
 use Rattle.fields.specs.Boxes.{meets}

@@ -1,6 +1,6 @@
 -- EVERY CLAIM, in one record: `claims` (proofs/Claims.antt) is its one proof. M is the prover's own parameter.
 use Rattle.std.specs.Prelude.{ℕ, Bool, ◌≡◌, List}
-use Rattle.refusals.specs.declared.Verdict.TheVariants.{Fine}
+use Rattle.refusals.specs.Verdict.{Fine}
 use Rattle.fields.specs.Headers.{Legal}
 use Rattle.rules.specs.Good.{list_verdict}
 use Rattle.tree_check.specs.Serves.{Serves}

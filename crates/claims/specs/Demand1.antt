@@ -3,14 +3,16 @@
 --              (`Settles`); a refusal leaves them as found, and a success those past what was written (`WritesOnly`)
 --   nodes_of i vs        the words of as many nodes as value i says
 --   WritesBytes w P      `WritesOnly` of a call that says how many bytes it wrote
-use Rattle.std.specs.Prelude.{ℕ, ◌*◌, Bool, ◌≡◌, List}
+use Rattle.policy.specs.declared.tree.Words.{Words}
+use Rattle.policy.specs.declared.part.Begun.{Begun}
+use Rattle.refusals.specs.declared.Refusal.{Refusal}
+use Rattle.std.specs.Prelude.{ℕ, ◌*◌, Bool, ◌≡◌, List, Result}
 use Rattle.std.proofs.Math.Option.{Option}
 use Rattle.refusals.specs.Promises.{Fixes, Settles, WritesOnly, WritesBoth, value}
-use Rattle.refusals.specs.declared.Verdict.{Verdict}
+use Rattle.refusals.specs.Verdict.{Verdict}
 use Rattle.rules.specs as rules
 use Rattle.trees.specs as trees
 use Rattle.tree_check.specs as check
-use Rattle.text.specs.declared.put.Written.{Written}
 use Rattle.rule_file.specs as rule_file
 use Rattle.tree_file.specs as tree_file
 use Rattle.builder.specs.Build as builder
@@ -18,15 +20,13 @@ use Rattle.text.specs as text
 use Rattle.console.specs.declared.gather.Gathering.{Gathering}
 use Rattle.console.specs as console
 use Rattle.policy.specs as policy
-use Rattle.policy.specs.declared.tree.Taken.{Taken}
-use Rattle.policy.specs.declared.part.Begun.{Begun}
 use Rattle.exports.specs.Calls as c
 use Rattle.exports.specs.Answers.{plainly, counts_last, in_two_words, first_in_words, Tells, TellsOne, TellsBoth}
 
 abbrev nodes_of : ℕ → List ℕ → ℕ
 nodes_of i vs = value i vs * trees.Words.node_words
 
-abbrev WritesBytes : List ℕ → (Written → List ℕ → Type 0) → Type 0
+abbrev WritesBytes : List ℕ → (Result ℕ Refusal → List ℕ → Type 0) → Type 0
 WritesBytes w P = WritesOnly w P text.Said.paper (value 0)
 
 pub record Calls : Type 0 where
@@ -68,12 +68,12 @@ pub record Calls : Type 0 where
       WritesOnly w (policy.TakeList.ListTaken f w) policy.TakeList.paper (value 0)
   pub take_tree : (f : Option (List ℕ)) (ns es : List ℕ) →
       WritesBoth ns es (policy.TakeTree.TreeTaken f ns es) policy.TakeTree.paper (value 0) (value 1)
-  pub who_serves : (t : Taken) (rs ns es : List ℕ) → Fixes (λ r. r ≡ policy.WhoServes.serving_of t rs ns es)
+  pub who_serves : (t : Result Words Refusal) (rs ns es : List ℕ) → Fixes (λ r. r ≡ policy.WhoServes.serving_of t rs ns es)
   pub verdict_line : (v : Verdict) (w : List ℕ) → WritesBytes w (text.Said.Said (policy.Output.verdict_line v) w)
   pub compile_text : (rs w : List ℕ) → WritesBytes w (policy.Compiled.TextCompiled rs w)
   pub take_part : (f : Option (List ℕ)) (ns es : List ℕ) →
       WritesBoth ns es (policy.TakePart.PartTaken f ns es) policy.TakePart.paper (value 1) (value 2)
-  pub goes_on : (t : Begun) (rs ns es : List ℕ) → Fixes (λ r. r ≡ policy.TakePart.goes_on t rs ns es)
+  pub goes_on : (t : Result Begun Refusal) (rs ns es : List ℕ) → Fixes (λ r. r ≡ policy.TakePart.goes_on t rs ns es)
   pub some_text : (rs : List ℕ) (most : ℕ) (w : List ℕ) → WritesBytes w (policy.Steps.SomeWritten rs most w)
   pub on_text : (rs : List ℕ) (n : ℕ) (part kept : List ℕ) (most : ℕ) (w : List ℕ) →
       WritesBytes w (policy.Steps.OnWritten rs n part kept most w)

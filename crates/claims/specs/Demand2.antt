@@ -1,14 +1,13 @@
 -- Demand 2, the answers: which lists have twins, and what is listed, by the list or by a tree that serves it.
 -- Statements only.
-use Rattle.std.specs.Prelude.{ℕ, ◌<◌, true, ◌↔◌, ◌≡◌, List}
+use Rattle.trees.specs.declared.search.Listed.{Listed}
+use Rattle.refusals.specs.declared.Refusal.{Refusal}
+use Rattle.std.specs.Prelude.{ℕ, ◌<◌, true, ◌↔◌, ◌≡◌, List, Ok, Result}
 use Rattle.refusals.specs.declared.Refusal.TheVariants.{RuleHasTwin}
-use Rattle.refusals.specs.declared.Verdict.TheVariants.{Fine, Refused}
+use Rattle.refusals.specs.Verdict.{Fine, Refused}
 use Rattle.refusals.specs.Order.{◌then◌, ◌giving◌}
 use Rattle.fields.specs as fields
 use Rattle.rules.specs as rules
-use Rattle.rules.specs.declared.line.Listed.{Listed}
-use Rattle.rules.specs.declared.line.Listed.TheVariants.{Found}
-use Rattle.rules.specs.declared.line.First.TheVariants.{Rule, NoRule}
 use Rattle.rules.specs.Twins.{same_words, Alike, NoTwins, FirstTwins}
 use Rattle.rules.specs.Words.{match_words, rule_count, word_of}
 use Rattle.rules.specs.Good.{good, rules_verdict, list_verdict_to, list_verdict}
@@ -17,9 +16,6 @@ use Rattle.rules.specs.LineFirst.{first_of}
 use Rattle.rules.specs.Scan.{scan_count}
 use Rattle.rules.specs.Found.{AllMatches, FirstMatch, NoMatch}
 use Rattle.trees.specs as trees
-use Rattle.trees.specs.declared.search.TreeListed.{TreeListed}
-use Rattle.trees.specs.declared.search.TreeListed.TheVariants as tree_all
-use Rattle.trees.specs.declared.search.TreeFirst.TheVariants as tree_first
 use Rattle.text.specs.Text as text
 use Rattle.rule_file.specs.RuleText.{lines_in, rules_in}
 
@@ -50,18 +46,18 @@ pub record Twins : Type 0 where
 -- good list; and a good rule matches exactly the headers in its box
 pub record Matching : Type 0 where
   pub line_all :
-      (rs h before after : List ℕ) (n : ℕ) → rules.LineAll.LineAllSearched rs h before (Found n) after →
+      (rs h before after : List ℕ) (n : ℕ) → rules.LineAll.LineAllSearched rs h before (Ok n) after →
       AllMatches (rule_count rs) rs h n after
   pub line_first :
-      (rs h : List ℕ) (n a : ℕ) → rules.LineFirst.LineFirstSearched rs h (Rule n a) →
+      (rs h : List ℕ) (n a : ℕ) → rules.LineFirst.LineFirstSearched rs h (rules.Hits.Rule n a) →
       FirstMatch (rule_count rs) rs h n a
-  pub line_none : (rs h : List ℕ) → rules.LineFirst.LineFirstSearched rs h NoRule → NoMatch (rule_count rs) rs h
+  pub line_none : (rs h : List ℕ) → rules.LineFirst.LineFirstSearched rs h rules.Hits.NoRule → NoMatch (rule_count rs) rs h
   pub scan_all :
-      (rs h before after : List ℕ) (n : ℕ) → rules.Scan.ScanAllSearched rs h before (Found n) after →
+      (rs h before after : List ℕ) (n : ℕ) → rules.Scan.ScanAllSearched rs h before (Ok n) after →
       AllMatches (scan_count rs) rs h n after
   pub scan_first :
-      (rs h : List ℕ) (n a : ℕ) → rules.Scan.ScanFirstSearched rs h (Rule n a) → FirstMatch (scan_count rs) rs h n a
-  pub scan_none : (rs h : List ℕ) → rules.Scan.ScanFirstSearched rs h NoRule → NoMatch (scan_count rs) rs h
+      (rs h : List ℕ) (n a : ℕ) → rules.Scan.ScanFirstSearched rs h (rules.Hits.Rule n a) → FirstMatch (scan_count rs) rs h n a
+  pub scan_none : (rs h : List ℕ) → rules.Scan.ScanFirstSearched rs h rules.Hits.NoRule → NoMatch (scan_count rs) rs h
   pub scan_counts : (rs : List ℕ) → list_verdict rs ≡ Fine → scan_count rs ≡ rule_count rs
   pub box :
       (rs : List ℕ) (r : ℕ) → good rs r ≡ true → (h : List ℕ) →
@@ -72,18 +68,18 @@ pub record Matching : Type 0 where
 pub record ByTree (rs ns es : List ℕ) : Type 0 where
   pub refuses : (h : List ℕ) (n : ℕ) → trees.TreeAll.tree_all_verdict rs ns es h n ≡ rules.LineAll.all_verdict rs h n
   pub leaves :
-      (h found : List ℕ) {r : TreeListed} {s : Listed} {v w : List ℕ} →
+      (h found : List ℕ) {r : Result Listed Refusal} {s : Result ℕ Refusal} {v w : List ℕ} →
       trees.TreeAll.TreeAllSearched rs ns es h found r v → rules.LineAll.LineAllSearched rs h found s w → v ≡ w
   pub same_first :
       (h : List ℕ) → (trees.Search.reach_verdict rs ns es h giving first_of rs (trees.Search.tree_list rs ns es h)) ≡
       ((list_verdict rs then fields.Headers.header_verdict h) giving first_of rs (matching rs h))
   pub all :
       (h before after : List ℕ) (n v k : ℕ) →
-      trees.TreeAll.TreeAllSearched rs ns es h before (tree_all.Found n v k) after →
+      trees.TreeAll.TreeAllSearched rs ns es h before (trees.Answers.Found n v k) after →
       AllMatches (rule_count rs) rs h n after
   pub first :
-      (h : List ℕ) (n a v k : ℕ) → trees.TreeFirst.TreeFirstSearched rs ns es h (tree_first.Rule n a v k) →
+      (h : List ℕ) (n a v k : ℕ) → trees.TreeFirst.TreeFirstSearched rs ns es h (trees.Answers.Rule n a v k) →
       FirstMatch (rule_count rs) rs h n a
   pub none :
-      (h : List ℕ) (v k : ℕ) → trees.TreeFirst.TreeFirstSearched rs ns es h (tree_first.NoRule v k) →
+      (h : List ℕ) (v k : ℕ) → trees.TreeFirst.TreeFirstSearched rs ns es h (trees.Answers.NoRule v k) →
       NoMatch (rule_count rs) rs h

@@ -1,22 +1,14 @@
 -- The scope's numbers as bare numerals, each beside the definition that has it. Statements only.
 --   ports k    k rules, good and no two alike: rule r is to destination port r, and from and to anything else
-use Rattle.std.specs.Prelude.{ℕ, zero, suc, ◌<◌, ◌≡◌, List, [], ◌∷◌, ◌++◌, map}
+use Rattle.tree_file.specs.Reading.{HoldsTree}
+use Rattle.rule_file.specs.Reading.{HoldsRules}
+use Rattle.builder.specs.Said.{BuiltTree, Stopped, Whole}
+use Rattle.tree_check.specs.Said.{Accepted}
+use Rattle.std.specs.Prelude.{ℕ, zero, suc, ◌<◌, ◌≡◌, List, [], ◌∷◌, ◌++◌, map, Ok}
 use Rattle.refusals.specs.declared.Refusal.TheVariants as no
 use Rattle.refusals.specs.Paper.{refusal, on_paper}
 use Rattle.fields.specs.Words as header
-use Rattle.rules.specs.declared.check.Checked.TheVariants as checked
-use Rattle.rules.specs.declared.line.Listed.TheVariants as line_all
-use Rattle.rules.specs.declared.line.First.TheVariants as line_first
-use Rattle.rules.specs.declared.miss.Missed.TheVariants as missed
-use Rattle.trees.specs.declared.search.TreeListed.TheVariants as tree_all
-use Rattle.trees.specs.declared.search.TreeFirst.TheVariants as tree_first
-use Rattle.tree_check.specs.declared.check.TreeAnswer.TheVariants as tree_check
-use Rattle.text.specs.declared.put.Written.TheVariants as written
 use Rattle.rule_file.specs.declared.kind.Kind.TheVariants as kind
-use Rattle.rule_file.specs.declared.read.Read.TheVariants as rules_read
-use Rattle.tree_file.specs.declared.read.Read.TheVariants as tree_read
-use Rattle.builder.specs.declared.build.Built.TheVariants as build
-use Rattle.builder.specs.declared.step.Step.TheVariants as step
 use Rattle.rules.specs as rules
 use Rattle.trees.specs as trees
 use Rattle.tree_check.specs as check
@@ -57,22 +49,22 @@ pub record Numbers : Type 0 where
   -- the eight words of a refusal by a C function, and of what each kind of call says
   pub answers :
       (as_eight plainly (on_paper (no.LeafLacksRule 3 1)) ≡ 8 ∷ 3 ∷ 1 ∷ 0 ∷ 0 ∷ 0 ∷ 0 ∷ 0 ∷ []) ×
-      (as_eight plainly (rules.RuleCheck.paper (checked.Good 7)) ≡ 0 ∷ 0 ∷ 0 ∷ 7 ∷ 0 ∷ 0 ∷ 0 ∷ 0 ∷ []) ×
-      (as_eight plainly (rules.LineAll.paper (line_all.Found 7)) ≡ 0 ∷ 0 ∷ 0 ∷ 7 ∷ 0 ∷ 0 ∷ 0 ∷ 0 ∷ []) ×
-      (as_eight in_two_words (rules.LineFirst.paper (line_first.Rule 6 9)) ≡ 0 ∷ 0 ∷ 0 ∷ 7 ∷ 0 ∷ 0 ∷ 9 ∷ 0 ∷ []) ×
-      (as_eight in_two_words (rules.LineFirst.paper line_first.NoRule) ≡ 0 ∷ 0 ∷ 0 ∷ 0 ∷ 0 ∷ 0 ∷ 0 ∷ 0 ∷ []) ×
-      (as_eight plainly (rules.RuleMisses.paper (missed.At 4)) ≡ 0 ∷ 0 ∷ 0 ∷ 4 ∷ 0 ∷ 0 ∷ 0 ∷ 0 ∷ []) ×
-      (as_eight counts_last (trees.TreeAll.paper (tree_all.Found 7 8 9)) ≡ 0 ∷ 0 ∷ 0 ∷ 7 ∷ 8 ∷ 9 ∷ 0 ∷ 0 ∷ []) ×
-      (as_eight first_in_words (trees.TreeFirst.paper (tree_first.Rule 6 10 8 9)) ≡ 0 ∷ 0 ∷ 0 ∷ 7 ∷ 8 ∷ 9 ∷ 10 ∷ 0 ∷ []) ×
-      (as_eight first_in_words (trees.TreeFirst.paper (tree_first.NoRule 8 9)) ≡ 0 ∷ 0 ∷ 0 ∷ 0 ∷ 8 ∷ 9 ∷ 0 ∷ 0 ∷ []) ×
-      (as_eight plainly (check.TreeCheck.paper (tree_check.Accepted 7 8)) ≡ 0 ∷ 0 ∷ 0 ∷ 7 ∷ 8 ∷ 0 ∷ 0 ∷ 0 ∷ []) ×
-      (as_eight plainly (text.Said.paper (written.Bytes 7)) ≡ 0 ∷ 0 ∷ 0 ∷ 7 ∷ 0 ∷ 0 ∷ 0 ∷ 0 ∷ []) ×
-      (as_eight plainly (rule_file.Reading.paper (rules_read.Rules 7 kind.Rules)) ≡ 0 ∷ 0 ∷ 0 ∷ 7 ∷ 0 ∷ 0 ∷ 0 ∷ 0 ∷ []) ×
-      (as_eight plainly (rule_file.Reading.paper (rules_read.Rules 7 kind.Acl)) ≡ 0 ∷ 0 ∷ 0 ∷ 7 ∷ 1 ∷ 0 ∷ 0 ∷ 0 ∷ []) ×
-      (as_eight plainly (tree_file.Reading.paper (tree_read.Tree 7 8 9)) ≡ 0 ∷ 0 ∷ 0 ∷ 7 ∷ 8 ∷ 9 ∷ 0 ∷ 0 ∷ []) ×
-      (as_eight plainly (builder.Build.paper (build.Tree 7 8)) ≡ 0 ∷ 0 ∷ 0 ∷ 7 ∷ 8 ∷ 0 ∷ 0 ∷ 0 ∷ []) ×
-      (as_eight plainly (builder.Build.step_paper (step.Whole 7 8)) ≡ 0 ∷ 0 ∷ 0 ∷ 7 ∷ 8 ∷ 1 ∷ 0 ∷ 0 ∷ []) ×
-      (as_eight plainly (builder.Build.step_paper (step.Stopped 7 8)) ≡ 0 ∷ 0 ∷ 0 ∷ 7 ∷ 8 ∷ 0 ∷ 0 ∷ 0 ∷ [])
+      (as_eight plainly (rules.RuleCheck.paper (Ok 7)) ≡ 0 ∷ 0 ∷ 0 ∷ 7 ∷ 0 ∷ 0 ∷ 0 ∷ 0 ∷ []) ×
+      (as_eight plainly (rules.LineAll.paper (Ok 7)) ≡ 0 ∷ 0 ∷ 0 ∷ 7 ∷ 0 ∷ 0 ∷ 0 ∷ 0 ∷ []) ×
+      (as_eight in_two_words (rules.LineFirst.paper (rules.Hits.Rule 6 9)) ≡ 0 ∷ 0 ∷ 0 ∷ 7 ∷ 0 ∷ 0 ∷ 9 ∷ 0 ∷ []) ×
+      (as_eight in_two_words (rules.LineFirst.paper rules.Hits.NoRule) ≡ 0 ∷ 0 ∷ 0 ∷ 0 ∷ 0 ∷ 0 ∷ 0 ∷ 0 ∷ []) ×
+      (as_eight plainly (rules.RuleMisses.paper (Ok 4)) ≡ 0 ∷ 0 ∷ 0 ∷ 4 ∷ 0 ∷ 0 ∷ 0 ∷ 0 ∷ []) ×
+      (as_eight counts_last (trees.TreeAll.paper (trees.Answers.Found 7 8 9)) ≡ 0 ∷ 0 ∷ 0 ∷ 7 ∷ 8 ∷ 9 ∷ 0 ∷ 0 ∷ []) ×
+      (as_eight first_in_words (trees.TreeFirst.paper (trees.Answers.Rule 6 10 8 9)) ≡ 0 ∷ 0 ∷ 0 ∷ 7 ∷ 8 ∷ 9 ∷ 10 ∷ 0 ∷ []) ×
+      (as_eight first_in_words (trees.TreeFirst.paper (trees.Answers.NoRule 8 9)) ≡ 0 ∷ 0 ∷ 0 ∷ 0 ∷ 8 ∷ 9 ∷ 0 ∷ 0 ∷ []) ×
+      (as_eight plainly (check.TreeCheck.paper (Accepted 7 8)) ≡ 0 ∷ 0 ∷ 0 ∷ 7 ∷ 8 ∷ 0 ∷ 0 ∷ 0 ∷ []) ×
+      (as_eight plainly (text.Said.paper (Ok 7)) ≡ 0 ∷ 0 ∷ 0 ∷ 7 ∷ 0 ∷ 0 ∷ 0 ∷ 0 ∷ []) ×
+      (as_eight plainly (rule_file.Reading.paper (HoldsRules 7 kind.Rules)) ≡ 0 ∷ 0 ∷ 0 ∷ 7 ∷ 0 ∷ 0 ∷ 0 ∷ 0 ∷ []) ×
+      (as_eight plainly (rule_file.Reading.paper (HoldsRules 7 kind.Acl)) ≡ 0 ∷ 0 ∷ 0 ∷ 7 ∷ 1 ∷ 0 ∷ 0 ∷ 0 ∷ []) ×
+      (as_eight plainly (tree_file.Reading.paper (HoldsTree 7 8 9)) ≡ 0 ∷ 0 ∷ 0 ∷ 7 ∷ 8 ∷ 9 ∷ 0 ∷ 0 ∷ []) ×
+      (as_eight plainly (builder.Build.paper (BuiltTree 7 8)) ≡ 0 ∷ 0 ∷ 0 ∷ 7 ∷ 8 ∷ 0 ∷ 0 ∷ 0 ∷ []) ×
+      (as_eight plainly (builder.Build.step_paper (Whole 7 8)) ≡ 0 ∷ 0 ∷ 0 ∷ 7 ∷ 8 ∷ 1 ∷ 0 ∷ 0 ∷ []) ×
+      (as_eight plainly (builder.Build.step_paper (Stopped 7 8)) ≡ 0 ∷ 0 ∷ 0 ∷ 7 ∷ 8 ∷ 0 ∷ 0 ∷ 0 ∷ [])
   -- eight rules are not parted: they are one leaf
   pub leaf_of_eight :
       built.BuiltTree.built_tree (ports 8) ≡ built.Trees.leaf (0 ∷ 1 ∷ 2 ∷ 3 ∷ 4 ∷ 5 ∷ 6 ∷ 7 ∷ [])

@@ -1,13 +1,13 @@
 -- The part check: when a compile may go on from a part, the first nodes of a tree whose compile was stopped. For any
 -- list, number of rules, nodes and pool. Statements only.
-use Rattle.std.specs.Prelude.{ℕ, ◌≤◌, ◌<◌, true, ◌≡◌, ◌↔◌, ◌⊎◌, List}
+use Rattle.tree_check.specs.declared.preorder.Lack.{Lack}
+use Rattle.tree_check.specs.Said.{Good}
+use Rattle.std.specs.Prelude.{ℕ, ◌≤◌, ◌<◌, true, ◌≡◌, ◌↔◌, ◌⊎◌, List, Option}
 use Rattle.refusals.specs.declared.Refusal.TheVariants.{NodeWrong, LeafWrong, LeafLacksRule}
-use Rattle.refusals.specs.declared.Verdict.TheVariants.{Fine, Refused}
+use Rattle.refusals.specs.Verdict.{Fine, Refused}
 use Rattle.rules.specs.Words.{rule_count}
 use Rattle.rules.specs.Good.{list_verdict}
 use Rattle.trees.specs.Words.{leaf_mark, node_count, field_of, size_verdict}
-use Rattle.tree_check.specs.declared.preorder.Lack.{Lack}
-use Rattle.tree_check.specs.declared.preorder.Part.TheVariants.{Good}
 use Rattle.tree_check.specs.SoFar.{SoFar, FormedSoFar}
 use Rattle.tree_check.specs.MayGoOn.{MayGoOn, LacksSoFar}
 use Rattle.tree_check.specs.Preorder.{preorder_of}
@@ -20,7 +20,7 @@ pub record PartCheck : Type 0 where
   pub walk :
       (rs ns es : List ℕ) (k : ℕ) (b : List (List ℕ)) (i e : ℕ) →
       ((j : ℕ) → j < node_count ns → field_of ns j ≤ leaf_mark) →
-      ((c : ℕ) × (l : ℕ) × (y : Lack) × (preorder_of true k rs ns es b i ≡ Good e c l y)) ↔ SoFar ns es k b i e
+      ((c : ℕ) × (l : ℕ) × (y : Option Lack) × (preorder_of true k rs ns es b i ≡ Good e c l y)) ↔ SoFar ns es k b i e
   -- the part check is fine exactly where the list is good, the sizes hold, n is the list's number of rules, the tree is
   -- well formed so far, and each leaf so far lists every rule whose box meets its own
   pub fine : (rs : List ℕ) (n : ℕ) (ns es : List ℕ) → (so_far_verdict rs n ns es ≡ Fine) ↔ MayGoOn rs n ns es

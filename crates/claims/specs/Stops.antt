@@ -1,10 +1,11 @@
 -- A build that is stopped and gone on with: any list, any number of nodes at a time, and any room. Statements only.
 --   Stopping    however often it is stopped, it ends in the words or the refusal of a build that was never stopped
 --   Others      what comes out of a part that anyone has made
-use Rattle.std.specs.Prelude.{ℕ, ◌+◌, ◌*◌, min, max, ◌≡◌, ◌↔◌, List, length, take}
+use Rattle.builder.specs.Said.{BuiltTree, Stopped, Whole}
+use Rattle.std.specs.Prelude.{ℕ, ◌+◌, ◌*◌, min, max, ◌≡◌, ◌↔◌, List, length, take, Err}
 use Rattle.refusals.specs.declared.Refusal.{Refusal}
-use Rattle.refusals.specs.declared.Verdict.TheVariants as no
-use Rattle.refusals.specs.declared.Verdict.TheVariants.{Fine}
+use Rattle.refusals.specs.Verdict as no
+use Rattle.refusals.specs.Verdict.{Fine}
 use Rattle.rules.specs.Words.{rule_count}
 use Rattle.rules.specs.Good.{list_verdict}
 use Rattle.trees.specs.Words.{node_words, most_nodes, most_pool, node_count}
@@ -17,8 +18,6 @@ use Rattle.built.specs.Stops.{up_to, stop_nodes, stop_pool}
 use Rattle.built.specs.BuiltTree.{built_tree}
 use Rattle.built.specs.StopOf.{StopOf}
 use Rattle.built.specs.FirstUnfit.{FirstUnfit}
-use Rattle.builder.specs.declared.build.Built.TheVariants as built
-use Rattle.builder.specs.declared.step.Step.TheVariants.{Refused, Whole, Stopped}
 use Rattle.builder.specs.Build.{TreeBuilt, SomeBuilt, OnBuilt}
 use Rattle.builder.specs.Reached.{Reached}
 
@@ -27,18 +26,18 @@ pub record Stopping : Type 0 where
   -- refused as the build is
   pub first_whole :
       (rs ns es x y : List ℕ) (most n p : ℕ) → SomeBuilt rs most ns es (Whole n p) x y →
-      TreeBuilt rs ns es (built.Tree n p) x y
+      TreeBuilt rs ns es (BuiltTree n p) x y
   pub first_stop :
       (rs ns es x y : List ℕ) (most k p : ℕ) → SomeBuilt rs most ns es (Stopped k p) x y →
       (k ≡ max most 1) × StopOf rs k (take (k * node_words) x) (take p y)
   pub first_refused :
-      (rs ns es x y : List ℕ) (most : ℕ) (why : Refusal) → SomeBuilt rs most ns es (Refused why) x y →
-      TreeBuilt rs ns es (built.Refused why) x y
+      (rs ns es x y : List ℕ) (most : ℕ) (why : Refusal) → SomeBuilt rs most ns es (Err why) x y →
+      TreeBuilt rs ns es (Err why) x y
   -- of a good list it is refused exactly where a node before its stop does not fit: with 4 for the first such node, and
   -- what is wanted there
   pub first_short :
       (rs ns es : List ℕ) (most : ℕ) (why : Refusal) → list_verdict rs ≡ Fine →
-      SomeBuilt rs most ns es (Refused why) ns es ↔
+      SomeBuilt rs most ns es (Err why) ns es ↔
       FirstUnfit (laid (up_to (max most 1) (built_tree rs) 0) 0 0) (min (length ns) (most_nodes * node_words))
       (min (length es) most_pool) why
   -- what any number of steps comes to is a stop, after as many nodes as it has; any stop is taken; and a step on from
@@ -52,16 +51,16 @@ pub record Stopping : Type 0 where
       (k ≡ j + max most 1) × StopOf rs k (take (k * node_words) x) (take p y)
   pub ends_whole :
       (rs part kept ns es x y : List ℕ) (j most n p : ℕ) → StopOf rs j part kept →
-      OnBuilt rs (rule_count rs) part kept most ns es (Whole n p) x y → TreeBuilt rs ns es (built.Tree n p) x y
+      OnBuilt rs (rule_count rs) part kept most ns es (Whole n p) x y → TreeBuilt rs ns es (BuiltTree n p) x y
   pub ends_refused :
       (rs part kept ns es x y : List ℕ) (j most : ℕ) (why : Refusal) → StopOf rs j part kept →
-      OnBuilt rs (rule_count rs) part kept most ns es (Refused why) x y → TreeBuilt rs ns es (built.Refused why) x y
+      OnBuilt rs (rule_count rs) part kept most ns es (Err why) x y → TreeBuilt rs ns es (Err why) x y
 
 pub record Others : Type 0 where
   -- a part that the part check refuses is refused so, and both outputs are as found
   pub refused :
       (rs part kept ns es : List ℕ) (n most : ℕ) (why : Refusal) → so_far_verdict rs n part kept ≡ no.Refused why →
-      OnBuilt rs n part kept most ns es (Refused why) ns es
+      OnBuilt rs n part kept most ns es (Err why) ns es
   -- what is whole may serve the list; and so the tree check accepts it (`TreeCheck`, `accepts`)
   pub serves :
       (rs part kept ns es x y : List ℕ) (n most m p : ℕ) → OnBuilt rs n part kept most ns es (Whole m p) x y →
@@ -81,6 +80,6 @@ pub record Others : Type 0 where
   -- and what is wanted there
   pub short :
       (rs part kept ns es : List ℕ) (n most : ℕ) (why : Refusal) → so_far_verdict rs n part kept ≡ Fine →
-      OnBuilt rs n part kept most ns es (Refused why) ns es ↔
+      OnBuilt rs n part kept most ns es (Err why) ns es ↔
       FirstUnfit (laid (up_to (node_count part + max most 1) (tree_on (boxes_of rs) part kept) 0) 0 0)
       (min (length ns) (most_nodes * node_words)) (min (length es) most_pool) why

@@ -3,23 +3,20 @@
 --   search h ms n c f a    header h: list ms and first f, by list and tree; n nodes, c compared, and a for the first
 --   check rs ns es r       the tree check of nodes ns and pool es for the list rs answers r
 --   misses h k r           the call that says why a rule missed answers r of rule k and header h
-use Rattle.std.specs.Prelude.{ℕ, ◌+◌, ◌*◌, List, [], ◌∷◌, length}
+use Rattle.tree_check.specs.declared.check.Figures.{Figures}
+use Rattle.tree_check.specs.Said.{Accepted}
+use Rattle.trees.specs.Answers as by_tree
+use Rattle.rules.specs.Hits as by_list
+use Rattle.refusals.specs.declared.Refusal.{Refusal}
+use Rattle.std.specs.Prelude.{ℕ, ◌+◌, ◌*◌, List, [], ◌∷◌, length, Err, Ok, Result}
 use Rattle.facts.specs.Lists.{written}
 use Rattle.refusals.specs.declared.Refusal.TheVariants.{RuleNotGood, NodeWrong, LeafLacksRule}
 use Rattle.fields.specs.Words.{absent_port}
-use Rattle.rules.specs.declared.line.Listed.TheVariants as line
-use Rattle.rules.specs.declared.line.First.TheVariants as first
-use Rattle.rules.specs.declared.miss.Missed.{Missed}
-use Rattle.rules.specs.declared.miss.Missed.TheVariants as missed
 use Rattle.rules.specs.LineAll.{LineAllSearched}
 use Rattle.rules.specs.LineFirst.{LineFirstSearched}
 use Rattle.rules.specs.RuleMisses.{RuleCompared}
-use Rattle.trees.specs.declared.search.TreeListed.TheVariants as tree_all
-use Rattle.trees.specs.declared.search.TreeFirst.TheVariants as tree_first
 use Rattle.trees.specs.TreeAll.{TreeAllSearched}
 use Rattle.trees.specs.TreeFirst.{TreeFirstSearched}
-use Rattle.tree_check.specs.declared.check.TreeAnswer.{TreeAnswer}
-use Rattle.tree_check.specs.declared.check.TreeAnswer.TheVariants.{Refused, Accepted}
 use Rattle.tree_check.specs.TreeCheck.{TreeChecked}
 
 abbrev pub from : ℕ → ℕ → ℕ → ℕ → ℕ → ℕ → List ℕ
@@ -46,16 +43,16 @@ room = 0 ∷ 0 ∷ 0 ∷ []
 
 pub data Row : Type 0 where
   search : List ℕ → List ℕ → ℕ → ℕ → ℕ → ℕ → Row
-  check : List ℕ → List ℕ → List ℕ → TreeAnswer → Row
-  misses : List ℕ → ℕ → Missed → Row
+  check : List ℕ → List ℕ → List ℕ → Result Figures Refusal → Row
+  misses : List ℕ → ℕ → Result ℕ Refusal → Row
 
 abbrev pub AllHold : List Row → Type 0
 AllHold [] = Unit {0}
 AllHold (search h ms n c f a ∷ rows) =
-    (LineAllSearched rules h room (line.Found (length ms)) (written ms room) ×
-    LineFirstSearched rules h (first.Rule f 0) ×
-    TreeAllSearched rules tree pool h room (tree_all.Found (length ms) n c) (written ms room) ×
-    TreeFirstSearched rules tree pool h (tree_first.Rule f 0 n a)) × AllHold rows
+    (LineAllSearched rules h room (Ok (length ms)) (written ms room) ×
+    LineFirstSearched rules h (by_list.Rule f 0) ×
+    TreeAllSearched rules tree pool h room (by_tree.Found (length ms) n c) (written ms room) ×
+    TreeFirstSearched rules tree pool h (by_tree.Rule f 0 n a)) × AllHold rows
 AllHold (check rs ns es r ∷ rows) = TreeChecked rs ns es r × AllHold rows
 AllHold (misses h k r ∷ rows) = RuleCompared rules h k r × AllHold rows
 
@@ -70,10 +67,10 @@ table =
     search (from 11 0 0 0 80 6) (2 ∷ []) 3 1 2 1 ∷
     search (from 10 1 2 3 absent_port 6) (2 ∷ []) 3 3 2 3 ∷
     check rules tree pool (Accepted 2 3) ∷
-    check rules (nodes 184549375 2) (2 ∷ 0 ∷ 2 ∷ 2 ∷ []) (Refused (LeafLacksRule 3 1)) ∷
-    check rules (nodes 167772159 3) pool (Refused (NodeWrong 2)) ∷
+    check rules (nodes 184549375 2) (2 ∷ 0 ∷ 2 ∷ 2 ∷ []) (Err (LeafLacksRule 3 1)) ∷
+    check rules (nodes 167772159 3) pool (Err (NodeWrong 2)) ∷
     check [] (5 ∷ 0 ∷ 0 ∷ []) [] (Accepted 0 0) ∷
-    misses (from 10 1 2 3 80 6) 0 (missed.At 5) ∷
-    misses (from 11 0 0 0 443 17) 0 (missed.At 0) ∷
-    misses (from 10 1 2 3 1024 17) 1 (missed.At 3) ∷
-    misses (from 10 1 2 3 80 6) 3 (missed.Refused (RuleNotGood 3)) ∷ []
+    misses (from 10 1 2 3 80 6) 0 (Ok 5) ∷
+    misses (from 11 0 0 0 443 17) 0 (Ok 0) ∷
+    misses (from 10 1 2 3 1024 17) 1 (Ok 3) ∷
+    misses (from 10 1 2 3 80 6) 3 (Err (RuleNotGood 3)) ∷ []

@@ -21,14 +21,12 @@ use ledger::arguments::argument_count;
 use ledger::handle::Handle;
 use policy::compiled::compile_text;
 use policy::file::MOST_FILE;
-use policy::list::{Listed, take_list};
-use refusals::Verdict;
+use policy::list::take_list;
 use rules::words::{MOST_RULES, RULE_WORDS};
 use steps::{write_first, write_next};
-use system::arguments::{Told, number_told};
+use system::arguments::number_told;
 use system::load::{RULES_FILE, load};
 use system::out::{say, say_verdict};
-use text::put::Written;
 
 // The whole tree; one step of `most` nodes from nothing; or one from the part in a file.
 #[derive(Clone, Copy)]
@@ -57,8 +55,8 @@ fn run(ledger: &mut u64, handle: Handle) -> bool
         return true;
     }
     match number_told(ledger, handle) {
-        Told::Wrong => true,
-        Told::Number(n) => {
+        None => true,
+        Some(n) => {
             let most = n as usize;
             if count == 2 {
                 return compile_list(ledger, handle, Asks::First { most });
@@ -76,8 +74,8 @@ fn compile_list(ledger: &mut u64, handle: Handle, asks: Asks) -> bool
     let mut rules = [0u32; MOST_RULES * RULE_WORDS];
     let file = load(ledger, handle, &RULES_FILE, &mut buffer);
     match take_list(file, &buffer, &mut rules) {
-        Listed::Refused(why) => say_verdict(ledger, handle, Verdict::Refused(why)),
-        Listed::Words { words } => {
+        Err(why) => say_verdict(ledger, handle, Err(why)),
+        Ok(words) => {
             buffer = [0u8; MOST_FILE];
             write_asked(ledger, handle, asks, &rules[..words], &mut buffer)
         }
@@ -85,8 +83,13 @@ fn compile_list(ledger: &mut u64, handle: Handle, asks: Asks) -> bool
 }
 
 // Writes what is asked for of the list.
-fn write_asked(ledger: &mut u64, handle: Handle, asks: Asks, rules: &[u32], out: &mut [u8]) -> bool
-    requires { length out.old ≡ most_file }
+fn write_asked(
+    ledger: &mut u64,
+    handle: Handle,
+    asks: Asks,
+    rules: &[u32],
+    out: &mut [u8; MOST_FILE],
+) -> bool
     ensures { Enters (Due asks rules.now result) ledger.old ledger.new }
 {
     match asks {
@@ -97,14 +100,13 @@ fn write_asked(ledger: &mut u64, handle: Handle, asks: Asks, rules: &[u32], out:
 }
 
 // Compiles the list, and writes the text of its tree, or why there is none. There is room for every text.
-fn write_tree(ledger: &mut u64, handle: Handle, rules: &[u32], out: &mut [u8]) -> bool
-    requires { length out.old ≡ most_file }
+fn write_tree(ledger: &mut u64, handle: Handle, rules: &[u32], out: &mut [u8; MOST_FILE]) -> bool
     ensures { Enters
         (HandedOut (text_or (largest_build rules.now) (built_text rules.now)) result)
         ledger.old ledger.new }
 {
     match compile_text(rules, out) {
-        Written::Refused(why) => say_verdict(ledger, handle, Verdict::Refused(why)),
-        Written::Bytes { bytes } => say(ledger, handle, &out[..bytes]),
+        Err(why) => say_verdict(ledger, handle, Err(why)),
+        Ok(bytes) => say(ledger, handle, &out[..bytes]),
     }
 }

@@ -10,13 +10,12 @@ ghost use Rattle.compile.specs.Asks.{PartLoaded};
 
 use ledger::arguments::argument;
 use ledger::handle::Handle;
-use policy::file::File;
+use policy::file::MOST_FILE;
 use policy::part::{Begun, goes_on, take_part};
 use policy::step::{on_text, some_text};
-use refusals::{Refusal, Verdict};
+use refusals::Refusal;
 use system::load::load;
 use system::out::{say, say_verdict};
-use text::put::Written;
 use trees::words::{MOST_NODES, MOST_POOL, NODE_WORDS};
 
 // The most bytes of a path.
@@ -28,15 +27,14 @@ pub(crate) fn write_first(
     handle: Handle,
     rules: &[u32],
     most: usize,
-    out: &mut [u8],
+    out: &mut [u8; MOST_FILE],
 ) -> bool
-    requires { length out.old ≡ most_file }
     ensures { Enters (HandedOut (first_step rules.now most) result) ledger.old
         ledger.new }
 {
     match some_text(rules, most, out) {
-        Written::Refused(why) => say_verdict(ledger, handle, Verdict::Refused(why)),
-        Written::Bytes { bytes } => say(ledger, handle, &out[..bytes]),
+        Err(why) => say_verdict(ledger, handle, Err(why)),
+        Ok(bytes) => say(ledger, handle, &out[..bytes]),
     }
 }
 
@@ -46,9 +44,8 @@ pub(crate) fn write_next(
     handle: Handle,
     rules: &[u32],
     most: usize,
-    out: &mut [u8],
+    out: &mut [u8; MOST_FILE],
 ) -> bool
-    requires { length out.old ≡ most_file }
     ensures { Enters (NextStep rules.now most result) ledger.old ledger.new }
 {
     let mut nodes = [0u32; MOST_NODES * NODE_WORDS];
@@ -56,12 +53,14 @@ pub(crate) fn write_next(
     let file = load_part(ledger, handle, out);
     let begun = take_part(file, out, &mut nodes, &mut pool);
     match goes_on(begun, rules, &nodes, &pool) {
-        Begun::Refused(why) => begin_anew(ledger, handle, rules, why, most, out),
-        Begun::Words {
-            rules: count,
-            nodes: n,
-            pool: p,
-        } => write_on(
+        Err(why) => begin_anew(ledger, handle, rules, why, most, out),
+        Ok(
+            Begun {
+                rules: count,
+                nodes: n,
+                pool: p,
+            },
+        ) => write_on(
             ledger,
             handle,
             rules,
@@ -75,7 +74,7 @@ pub(crate) fn write_next(
 }
 
 // The file that the second argument names. A path that is too long counts as none.
-fn load_part(ledger: &mut u64, handle: Handle, buffer: &mut [u8]) -> File
+fn load_part(ledger: &mut u64, handle: Handle, buffer: &mut [u8]) -> Option<usize>
     ensures { Enters (PartLoaded (length buffer.new) (text_in result buffer.new))
         ledger.old ledger.new }
 {
@@ -91,12 +90,11 @@ fn begin_anew(
     rules: &[u32],
     why: Refusal,
     most: usize,
-    out: &mut [u8],
+    out: &mut [u8; MOST_FILE],
 ) -> bool
-    requires { length out.old ≡ most_file }
     ensures { Enters (Anew rules.now most why result) ledger.old ledger.new }
 {
-    if !say_verdict(ledger, handle, Verdict::Refused(why)) {
+    if !say_verdict(ledger, handle, Err(why)) {
         return false;
     }
     write_first(ledger, handle, rules, most, out)
@@ -111,16 +109,15 @@ fn write_on(
     part: &[u32],
     kept: &[u32],
     most: usize,
-    out: &mut [u8],
+    out: &mut [u8; MOST_FILE],
 ) -> bool
-    requires { length out.old ≡ most_file }
     ensures { Enters
         (HandedOut (text_or (on_verdict rules.now count part.now kept.now most)
         (on_text rules.now part.now kept.now most)) result)
         ledger.old ledger.new }
 {
     match on_text(rules, count, part, kept, most, out) {
-        Written::Refused(why) => say_verdict(ledger, handle, Verdict::Refused(why)),
-        Written::Bytes { bytes } => say(ledger, handle, &out[..bytes]),
+        Err(why) => say_verdict(ledger, handle, Err(why)),
+        Ok(bytes) => say(ledger, handle, &out[..bytes]),
     }
 }

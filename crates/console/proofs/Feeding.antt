@@ -1,6 +1,7 @@
 -- A piece of input, byte by byte. `Reached` is the invariant: the bytes below i are taken, their replies fill the room
 -- up to a place, and what is left decides.
 --   up_to i             the replies to the first i bytes
+use Rattle.std.specs.Prelude.{Err, Ok, Result}
 use Prim.Native.Nat.{ℕ, ◌+◌, ◌-◌, ◌≤◌, ◌<◌}
 use native.Mathlib.Omega.{arith}
 use native.Mathlib.Nat.{zero-add, add-zero}
@@ -13,13 +14,11 @@ use Rattle.facts.specs.Lists.{written}
 use Rattle.facts.proofs.Cases.{WithinOrOver, within_or_over, at_most, over}
 use Rattle.facts.proofs.Steps.{drop_step, drop_end}
 use Rattle.refusals.specs.declared.Refusal.{Refusal}
-use Rattle.refusals.specs.declared.Verdict.{Verdict}
-use Rattle.refusals.specs.declared.Verdict.TheVariants as verdict
+use Rattle.refusals.specs.Verdict.{Verdict}
+use Rattle.refusals.specs.Verdict as verdict
 use Rattle.refusals.specs.Order.{room_verdict}
 use Rattle.refusals.proofs.Order.{refused_not_fine, room_fine_iff, leaving_fine, leaving_refused}
 use Rattle.refusals.proofs.Giving.{success_giving, refusal_giving}
-use Rattle.text.specs.declared.put.Written.{Written}
-use Rattle.text.specs.declared.put.Written.TheVariants.{Refused, Bytes}
 use Rattle.text.specs.Said.{paper, Said}
 use Rattle.console.specs.declared.gather.Gathering.{Gathering}
 use Rattle.console.specs.Gathered.{step, after, said, answers}
@@ -74,7 +73,7 @@ module _ (answer : List ℕ → List ℕ) (g₀ : Gathering) (bs before : List �
         record { taken = all; state = q.state; filled = sym q.filled; bytes = q.bytes }
 
     module _
-        (h : i < length bs) {r : Written} {part : List ℕ}
+        (h : i < length bs) {r : Result ℕ Refusal} {part : List ℕ}
         (s : Said (said answer g (get_or bs i 0)) (rest_of at now) r part) where
       abbrev here : List ℕ
       here = said answer g (get_or bs i 0)
@@ -85,7 +84,7 @@ module _ (answer : List ℕ → List ℕ) (g₀ : Gathering) (bs before : List �
       room : length (rest_of at now) ≡ length before - at
       room = ap length rest ∙ length-drop at before
 
-      module _ {why : Refusal} (e : r ≡ Refused why) where
+      module _ {why : Refusal} (e : r ≡ Err why) where
         refuses : verdict_here ≡ verdict.Refused why
         refuses = refusal_giving verdict_here (length here ∷ []) (ap paper (sym e) ∙ s.answers)
 
@@ -120,7 +119,7 @@ module _ (answer : List ℕ → List ℕ) (g₀ : Gathering) (bs before : List �
               bytes = put part ∙ ap (λ (p : List ℕ). up_to i ++ p) found;
             }
 
-      module _ {n : ℕ} (e : r ≡ Bytes n) where
+      module _ {n : ℕ} (e : r ≡ Ok n) where
         writes : (verdict_here ≡ verdict.Fine) × (n ∷ [] ≡ length here ∷ [])
         writes = success_giving verdict_here (length here ∷ []) (ap paper (sym e) ∙ s.answers)
 

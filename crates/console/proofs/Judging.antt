@@ -1,11 +1,13 @@
 -- What is asked of headers. The list is judged once: what then answers them, and that it answers each header as if the
 -- list were judged for that one.
+use Rattle.std.specs.Prelude.{Ok, Result}
+use Rattle.refusals.specs.declared.Refusal.{Refusal}
 use Prim.Native.Nat.{ℕ}
 use mathlib.Core.Bool.{Bool, true, false}
 use mathlib.Core.Path.{◌≡◌, refl, ap, ◌∙◌, subst, fun_ext}
 use mathlib.Core.List.{List}
-use Rattle.refusals.specs.declared.Verdict.{Verdict}
-use Rattle.refusals.specs.declared.Verdict.TheVariants.{Fine, Refused}
+use Rattle.refusals.specs.Verdict.{Verdict}
+use Rattle.refusals.specs.Verdict.{Fine, Refused}
 use Rattle.refusals.proofs.Order.{then_fine, then_refused}
 use Rattle.rules.specs.Good.{list_verdict}
 use Rattle.rules.specs.Scan.{scan_verdict}
@@ -24,7 +26,7 @@ use Rattle.console.specs.Feeding.{IsFed}
 
 module _ (rs : List ℕ) {t : Bool} where
   -- a tree that was accepted answers
-  pub tree_serves : t ≡ true → by.Tree ≡ by_of t rs
+  pub tree_serves : t ≡ true → Ok by.Tree ≡ by_of t rs
   unfolding by_of
   tree_serves e = rw e
 
@@ -48,7 +50,8 @@ module _ (rs nodes pool : List ℕ) where
 
   module _ {a : Ask} (h : List ℕ) where
     -- which rules match is answered by what answers
-    pub asked_matches : {b : By} → a ≡ ask.Matches b → answer_by b rs nodes pool h ≡ answer_asked a rs nodes pool h
+    pub asked_matches :
+        {b : Result By Refusal} → a ≡ ask.Matches b → answer_by b rs nodes pool h ≡ answer_asked a rs nodes pool h
     unfolding answer_asked
     asked_matches e = rw e
 
@@ -57,10 +60,10 @@ module _ (rs nodes pool : List ℕ) where
     unfolding answer_asked
     asked_misses e = rw e
 
-  module _ {b : By} (t : Bool) (e : b ≡ by_of t rs) where
+  module _ {b : Result By Refusal} (t : Bool) (e : b ≡ by_of t rs) where
     same_answers : answer_asked (ask.Matches b) rs nodes pool ≡ answer_to t rs nodes pool
     unfolding answer_asked
-    same_answers = ap (λ (x : By). answer_by x rs nodes pool) e ∙ fun_ext (judged_answer t)
+    same_answers = ap (λ (x : Result By Refusal). answer_by x rs nodes pool) e ∙ fun_ext (judged_answer t)
 
     -- a line gets the same reply as if the list were judged for it
     pub judged_reply :

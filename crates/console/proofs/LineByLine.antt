@@ -1,4 +1,5 @@
 -- A piece of input, line by line: what is reached at a newline, and what the reply there leads to.
+use Rattle.std.specs.Prelude.{Err, Ok, Result}
 use Prim.Native.Nat.{ℕ, ◌+◌, ◌-◌, ◌<◌}
 use native.Mathlib.Omega.{arith}
 use mathlib.Core.Path.{◌≡◌, sym, ap, ◌∙◌}
@@ -7,8 +8,6 @@ use lib.ListN.{length, get_or, take, drop, take-append-drop, length-drop}
 use lib.Seq.{take-add, drop-drop, length-take-le}
 use Rattle.facts.specs.Lists.{written}
 use Rattle.refusals.specs.declared.Refusal.{Refusal}
-use Rattle.text.specs.declared.put.Written.{Written}
-use Rattle.text.specs.declared.put.Written.TheVariants.{Refused, Bytes}
 use Rattle.text.specs.Words.{newline}
 use Rattle.text.specs.Said.{Said}
 use Rattle.text.proofs.Said.{said_same}
@@ -76,7 +75,7 @@ module _
     line_last k = rw (← k) (reached_last answer g₀ bs before reached_line (omega arith))
 
     module _
-        (more : j ≡ length bs → ⊥) {r : Written} {part : List ℕ} (s : Said (reply_at answer g') (rest_of at now) r part)
+        (more : j ≡ length bs → ⊥) {r : Result ℕ Refusal} {part : List ℕ} (s : Said (reply_at answer g') (rest_of at now) r part)
       where
         h : j < length bs
         h = omega (arith, e.within)
@@ -86,15 +85,15 @@ module _
 
         -- where the reply at the newline finds no room, the bytes before it are taken
         pub line_short :
-            {why : Refusal} → r ≡ Refused why →
+            {why : Refusal} → r ≡ Err why →
             IsFed answer g₀ bs before (record { taken = j; filled = at; gathering = g' }) (put_at at now part)
         line_short k = reached_short answer g₀ bs before reached_line h told k
 
         -- and as many bytes are lent as before
-        pub line_short_length : {why : Refusal} → r ≡ Refused why → length (put_at at now part) ≡ length before
+        pub line_short_length : {why : Refusal} → r ≡ Err why → length (put_at at now part) ≡ length before
         line_short_length k = short_length answer g₀ bs before reached_line h told k
 
         -- where it finds room, the newline is taken too
         pub line_step :
-            {n : ℕ} → r ≡ Bytes n → Reached answer g₀ bs before (step g' newline) (at + n) (j + 1) (put_at at now part)
+            {n : ℕ} → r ≡ Ok n → Reached answer g₀ bs before (step g' newline) (at + n) (j + 1) (put_at at now part)
         line_step k = rw (e.here h) at (reached_step answer g₀ bs before reached_line h told k)

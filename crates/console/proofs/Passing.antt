@@ -1,6 +1,9 @@
 -- Bytes without a newline are passed: all of them are taken, and nothing is replied to them. And where the line
 -- ends that begins at a place of a piece of input.
 --   part_to s at end   the bytes of s from the place at on, up to the place end
+use Rattle.std.specs.Prelude.{Err, Ok, Result}
+use Rattle.std.specs.Result.{result_unwrap_or}
+use Rattle.refusals.specs.declared.Refusal.{Refusal}
 use Prim.Native.Nat.{ℕ, ◌+◌, ◌-◌, ◌≤◌, ◌<◌}
 use native.Mathlib.Omega.{arith}
 use native.Mathlib.Nat.{zero-add}
@@ -10,8 +13,6 @@ use lib.ListN.{length, get_or, take, drop, length-drop}
 use lib.Seq.{take_at, take_all, drop-drop, drop_at, length-take-le}
 use borrow.Author.Tests.{le-leb, ne_eqb}
 use Rattle.facts.proofs.Steps.{drop_step}
-use Rattle.text.specs.declared.cursor.LineEnd.{LineEnd}
-use Rattle.text.specs.declared.cursor.LineEnd.TheVariants.{At, Refused}
 use Rattle.text.specs.Words.{newline}
 use Rattle.text.specs.Text.{no_line, next_from}
 use Rattle.text.specs.Cursors.{cursor_at, line_end_at}
@@ -20,7 +21,7 @@ use Rattle.text.proofs.Texts.{Found, next_found, next_none}
 use Rattle.text.proofs.NextLines.{EndAt, line_end_at_lem, line_end_refused}
 use Rattle.console.specs.declared.gather.Gathering.{Gathering}
 use Rattle.console.specs.Gathered.{step, after, answers}
-use Rattle.console.specs.LineEnds.{on_line_end, line_end}
+use Rattle.console.specs.LineEnds.{line_end}
 use Rattle.console.specs.Feeding.{taken_of}
 use Rattle.console.proofs.Gathering.{said_none}
 
@@ -105,9 +106,9 @@ module _ (s : List ℕ) (at : ℕ) where
           here = λ l. absurd (omega arith);
         }
 
-    ends_by : (r : LineEnd) → line_end_at s (cursor_at at 0) ≡ r → EndsAt s at (on_line_end (length s) r)
-    ends_by (At end) e = at_newline (line_end_at_lem s (cursor_at at 0) e)
-    ends_by (Refused why) e = at_end (line_end_refused s (cursor_at at 0) e).0
+    ends_by : (r : Result ℕ Refusal) → line_end_at s (cursor_at at 0) ≡ r → EndsAt s at (result_unwrap_or r (length s))
+    ends_by (Ok end) e = at_newline (line_end_at_lem s (cursor_at at 0) e)
+    ends_by (Err why) e = at_end (line_end_refused s (cursor_at at 0) e).0
 
   -- the end that is answered is the end of the line that begins at `at`
   pub line_ends : {end : ℕ} → at < length s → end ≡ line_end s at → EndsAt s at end

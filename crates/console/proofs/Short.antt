@@ -14,8 +14,8 @@ use Rattle.facts.proofs.Filling.{keep_at_most}
 use Rattle.facts.proofs.Under.{all_under_iff_at, all_under_iff_has}
 use Rattle.refusals.specs.declared.Refusal.{Refusal}
 use Rattle.refusals.specs.declared.Refusal.TheVariants.{RuleNotGood, HeaderWrong}
-use Rattle.refusals.specs.declared.Verdict.{Verdict}
-use Rattle.refusals.specs.declared.Verdict.TheVariants.{Fine, Refused}
+use Rattle.refusals.specs.Verdict.{Verdict}
+use Rattle.refusals.specs.Verdict.{Fine, Refused}
 use Rattle.refusals.specs.Order.{refuse_unless}
 use Rattle.refusals.proofs.Order.{then_fine, then_refused, refused_not_fine, room_fine_iff}
 use Rattle.refusals.proofs.Turns.{lowest_of_turns}

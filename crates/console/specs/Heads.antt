@@ -3,14 +3,13 @@
 --   head_test vs   the octets among the numbers vs of such a line are octets
 --   header_of vs   the header that these numbers say
 --   head_in l      the header that the line l asks about, if it is not too long and asks about one
---   head_at l      the same as the code answers it, with 0 for each word where there is none
-use Rattle.std.specs.Prelude.{ℕ, Bool, true, false, cond, ◌&&◌, List, [], ◌∷◌, length, get_or, replicate, leb}
+--   head_at l      the same as the code answers it
+use Rattle.std.specs.Prelude.{ℕ, Bool, cond, ◌&&◌, List, [], ◌∷◌, length, get_or, leb, Some, None}
+use Rattle.std.specs.Prelude as rust
 use Rattle.std.proofs.Math.Option.{Option, none, some}
-use Rattle.fields.specs.Words.{field_count}
 use Rattle.text.specs.Words.{head_word, head_marks}
 use Rattle.text.specs.Line.{read_line}
 use Rattle.text.specs.Addresses.{octets_fit, address_of}
-use Rattle.console.specs.declared.head.Head.{Head}
 
 abbrev pub most_bytes : ℕ
 most_bytes = 64
@@ -36,9 +35,9 @@ on_numbers (some vs) = head_from vs
 unfoldable pub head_in : List ℕ → Option (List ℕ)
 head_in l = cond (leb (length l) most_bytes) (on_numbers (read_line head_word head_marks l)) none
 
-abbrev pub in_head : Option (List ℕ) → Head
-in_head none = record { asked = false; header = replicate field_count 0 }
-in_head (some h) = record { asked = true; header = h }
+abbrev pub in_head : Option (List ℕ) → rust.Option (List ℕ)
+in_head none = None
+in_head (some h) = Some h
 
-unfoldable pub head_at : List ℕ → Head
+unfoldable pub head_at : List ℕ → rust.Option (List ℕ)
 head_at l = in_head (head_in l)

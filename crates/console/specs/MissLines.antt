@@ -7,8 +7,8 @@
 --   miss_answer rs n h  the line that answers header h: which field of rule n misses it, or that it matches; or the
 --                       refusal
 use Rattle.std.specs.Prelude.{ℕ, cond, List, [], ◌∷◌, ◌++◌, get_or, leb}
-use Rattle.refusals.specs.declared.Verdict.{Verdict}
-use Rattle.refusals.specs.declared.Verdict.TheVariants.{Fine, Refused}
+use Rattle.refusals.specs.Verdict.{Verdict}
+use Rattle.refusals.specs.Verdict.{Fine, Refused}
 use Rattle.fields.specs.Words.{field_count}
 use Rattle.rules.specs.Matching.{first_miss}
 use Rattle.rules.specs.RuleMisses.{miss_verdict}

@@ -6,8 +6,8 @@
 --                            about no header, else the answer
 use Rattle.std.specs.Prelude.{ℕ, Bool, true, false, List}
 use Rattle.std.proofs.Math.Option.{Option, none, some}
-use Rattle.refusals.specs.declared.Verdict.{Verdict}
-use Rattle.refusals.specs.declared.Verdict.TheVariants.{Fine, Refused}
+use Rattle.refusals.specs.Verdict.{Verdict}
+use Rattle.refusals.specs.Verdict.{Fine, Refused}
 use Rattle.rules.specs.Words.{most_rules}
 use Rattle.rules.specs.Matching.{matching}
 use Rattle.rules.specs.LineAll.{all_verdict}

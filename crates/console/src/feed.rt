@@ -15,8 +15,7 @@ use crate::judge::{Ask, by_of};
 use crate::reply::reply_by;
 use crate::say::refused_line;
 use refusals::Refusal;
-use text::cursor::{Cursor, LineEnd, wrong};
-use text::put::Written;
+use text::cursor::{Cursor, wrong};
 
 // How many bytes of a piece were taken, how many bytes their replies fill, and the line that is being gathered.
 #[derive(Clone, Copy)]
@@ -72,6 +71,7 @@ fn feed_by(
     let mut gathering = from;
     let mut filled = 0;
     let mut taken = 0;
+    // A turn takes a whole line, so that no count of turns is known.
     while taken < piece.len() {
         let end = line_end(piece, taken);
         let line = gathering.with_bytes(&piece[taken..end]);
@@ -83,14 +83,14 @@ fn feed_by(
             };
         }
         match reply_at(rules, nodes, pool, ask, line, &mut out[filled..]) {
-            Written::Refused(_) => {
+            Err(_) => {
                 return Fed {
                     taken: end,
                     filled,
                     gathering: line,
                 };
             }
-            Written::Bytes { bytes } => {
+            Ok(bytes) => {
                 filled += bytes;
             }
         }
@@ -109,10 +109,7 @@ fn line_end(piece: &[u8], from: usize) -> usize
     ensures { result ≡ line_end piece.now from }
 {
     let start = Cursor { at: from, lines: 0 };
-    match start.line_end(piece) {
-        LineEnd::At(end) => end,
-        LineEnd::Refused(_) => piece.len(),
-    }
+    start.line_end(piece).unwrap_or(piece.len())
 }
 
 // The reply to a line that is whole.
@@ -123,7 +120,7 @@ fn reply_at(
     ask: Ask,
     line: Gathering,
     out: &mut [u8],
-) -> Written
+) -> Result<usize, Refusal>
     ensures { Said
         (reply_at (answer_asked ask rules.now nodes.now pool.now) line)
         out.old result out.new }
@@ -142,7 +139,7 @@ fn whole_line(
     count: usize,
     lines: usize,
     out: &mut [u8],
-) -> Written
+) -> Result<usize, Refusal>
     ensures { Said
         (reply_at (answer_asked ask rules.now nodes.now pool.now)
         (gathering held count lines)) out.old result out.new }
@@ -154,13 +151,13 @@ fn whole_line(
 }
 
 // The reply at the end of input: nothing, or 10 to a last part without newline, of any length.
-pub fn last_reply(gathering: Gathering, out: &mut [u8]) -> Written
+pub fn last_reply(gathering: Gathering, out: &mut [u8]) -> Result<usize, Refusal>
     ensures said { Said (last_reply gathering) out.old result out.new }
     ensures short { length (last_reply gathering) ≤ most_refused }
 {
     let lines = gathering.lines;
     if gathering.count == 0 {
-        return Written::Bytes { bytes: 0 };
+        return Ok(0);
     }
     refused_line(Refusal::TextStops { lines }, out)
 }

@@ -35,8 +35,7 @@ impl Gathering {
         let lines = self.lines;
         let mut held = self.held;
         let mut count = self.count;
-        let mut at = 0;
-        while at < bytes.len() {
+        for byte in bytes {
             if MOST_BYTES <= count {
                 return Gathering {
                     held,
@@ -44,9 +43,8 @@ impl Gathering {
                     lines,
                 };
             }
-            held[count] = bytes[at];
+            held[count] = *byte;
             count += 1;
-            at += 1;
         }
         Gathering { held, count, lines }
     }

@@ -3,33 +3,31 @@
 ghost use Rattle.std.specs.Prelude.{◌≡◌};
 ghost use Rattle.console.specs.Judged.{by_of};
 
-use refusals::{Refusal, Verdict};
+use refusals::Refusal;
 use rules::check::list_verdict;
 
-// The tree; the list, which is good; or the refusal of the list, which answers every header.
+// The tree, or the list.
 #[derive(Clone, Copy)]
 pub(crate) enum By {
     Tree,
     List,
-    Refused(Refusal),
 }
 
-// Which rules match a header, by what answers; or why one rule misses it.
+// Which rules match a header, by what answers, or the refusal of the list, which answers every header; or why one rule
+// misses it.
 #[derive(Clone, Copy)]
 pub(crate) enum Ask {
-    Matches(By),
+    Matches(Result<By, Refusal>),
     Misses { rule: usize },
 }
 
 // The tree if the tree check accepted it. Else the list is judged.
-pub(crate) fn by_of(rules: &[u32], accepted: bool) -> By
+pub(crate) fn by_of(rules: &[u32], accepted: bool) -> Result<By, Refusal>
     ensures { result ≡ by_of accepted rules.now }
 {
     if accepted {
-        return By::Tree;
+        return Ok(By::Tree);
     }
-    match list_verdict(rules) {
-        Verdict::Refused(why) => By::Refused(why),
-        Verdict::Fine => By::List,
-    }
+    list_verdict(rules)?;
+    Ok(By::List)
 }

@@ -10,12 +10,12 @@ ghost use Rattle.console.specs.Judged.{verdict_by, list_by, answer_by, answer_as
 use crate::head::head_in;
 use crate::judge::{Ask, By, by_of};
 use crate::say::{hit_line, miss_line, refused_line};
-use rules::line::{Listed, scan_all};
-use rules::miss::{Missed, rule_misses};
+use refusals::Refusal;
+use rules::line::scan_all;
+use rules::miss::rule_misses;
 use rules::words::MOST_RULES;
 use text::cursor::wrong;
-use text::put::Written;
-use trees::search::{TreeListed, tree_all};
+use trees::search::tree_all;
 
 // The reply to a line without its newline, which has `lines` lines before it: by the tree if the tree check accepted
 // it, else by the list. A refusal writes nothing.
@@ -27,7 +27,7 @@ pub fn reply(
     lines: usize,
     line: &[u8],
     out: &mut [u8],
-) -> Written
+) -> Result<usize, Refusal>
     ensures { Said (line_reply (answer_to accepted rules.now nodes.now pool.now)
         lines line.now) out.old result out.new }
 {
@@ -44,16 +44,14 @@ pub(crate) fn reply_by(
     lines: usize,
     line: &[u8],
     out: &mut [u8],
-) -> Written
+) -> Result<usize, Refusal>
     ensures { Said (line_reply (answer_asked ask rules.now nodes.now pool.now)
         lines line.now) out.old result out.new }
 {
-    let head = head_in(line);
-    let header = head.header;
-    if !head.asked {
-        return refused_line(wrong(lines), out);
+    match head_in(line) {
+        None => refused_line(wrong(lines), out),
+        Some(header) => answer_asked(rules, nodes, pool, ask, &header, out),
     }
-    answer_asked(rules, nodes, pool, ask, &header, out)
 }
 
 // The answer to what is asked of a header.
@@ -64,7 +62,7 @@ fn answer_asked(
     ask: Ask,
     header: &[u32],
     out: &mut [u8],
-) -> Written
+) -> Result<usize, Refusal>
     ensures { Said (answer_asked ask rules.now nodes.now pool.now
         header.now) out.old result out.new }
 {
@@ -75,13 +73,13 @@ fn answer_asked(
 }
 
 // Why a rule misses a header.
-fn answer_miss(rules: &[u32], rule: usize, header: &[u32], out: &mut [u8]) -> Written
+fn answer_miss(rules: &[u32], rule: usize, header: &[u32], out: &mut [u8]) -> Result<usize, Refusal>
     ensures { Said (miss_answer rules.now rule header.now) out.old result
         out.new }
 {
     match rule_misses(rules, header, rule) {
-        Missed::Refused(why) => refused_line(why, out),
-        Missed::At { field } => miss_line(rules, rule, field, out),
+        Err(why) => refused_line(why, out),
+        Ok(field) => miss_line(rules, rule, field, out),
     }
 }
 
@@ -90,17 +88,17 @@ fn answer(
     rules: &[u32],
     nodes: &[u32],
     pool: &[u32],
-    by: By,
+    by: Result<By, Refusal>,
     header: &[u32],
     out: &mut [u8],
-) -> Written
+) -> Result<usize, Refusal>
     ensures { Said (answer_by by rules.now nodes.now pool.now
         header.now) out.old result out.new }
 {
     let mut found = [0u32; MOST_RULES];
     match search(rules, nodes, pool, by, header, &mut found) {
-        Listed::Refused(why) => refused_line(why, out),
-        Listed::Found { count } => hit_line(&found[..count], out),
+        Err(why) => refused_line(why, out),
+        Ok(count) => hit_line(&found[..count], out),
     }
 }
 
@@ -109,26 +107,21 @@ fn search(
     rules: &[u32],
     nodes: &[u32],
     pool: &[u32],
-    by: By,
+    by: Result<By, Refusal>,
     header: &[u32],
     out: &mut [u32],
-) -> Listed
+) -> Result<usize, Refusal>
     ensures { Lists
         (verdict_by by rules.now nodes.now pool.now header.now
         (length out.old))
         (list_by by rules.now nodes.now pool.now header.now)
         out.old result out.new }
 {
-    match by {
-        By::Refused(why) => Listed::Refused(why),
+    match by? {
         By::List => scan_all(rules, header, out),
-        By::Tree => match tree_all(rules, nodes, pool, header, out) {
-            TreeListed::Refused(why) => Listed::Refused(why),
-            TreeListed::Found {
-                count,
-                visited: _,
-                compared: _,
-            } => Listed::Found { count },
-        },
+        By::Tree => {
+            let found = tree_all(rules, nodes, pool, header, out)?;
+            Ok(found.count)
+        }
     }
 }

@@ -10,51 +10,50 @@ ghost use Rattle.console.specs.MissLines.{name_of, miss_line};
 use fields::header::FIELDS;
 use refusals::{Refusal, extra_of, number_of, place_of};
 use rule_file::piece::put_words;
-use text::put::{Written, put, put_bytes, put_numbers, put_wide};
+use text::put::{put, put_bytes, put_numbers, put_wide};
 use text::words::{
     DESTINATION, DESTINATION_PORT, HIT, MATCH, MISSES, NEWLINE, PROTOCOL, REFUSED, SOURCE,
     SOURCE_PORT, TAB,
 };
 
 // The line of a refusal, from the front of `out` on; the rest of `out` is as found.
-pub fn refused_line(why: Refusal, out: &mut [u8]) -> Written
+pub fn refused_line(why: Refusal, out: &mut [u8]) -> Result<usize, Refusal>
     ensures said { Said (refused_line why) out.old result out.new }
     ensures short { length (refused_line why) ≤ most_refused }
 {
     let needed = put_refused(why, &mut out[..0]);
     if out.len() < needed {
-        return Written::Refused(Refusal::OutputShort { needed, output: 0 });
+        return Err(Refusal::OutputShort { needed, output: 0 });
     }
-    Written::Bytes {
-        bytes: put_refused(why, out),
-    }
+    Ok(put_refused(why, out))
 }
 
 // The line of the numbers that match.
-pub(crate) fn hit_line(numbers: &[u32], out: &mut [u8]) -> Written
+pub(crate) fn hit_line(numbers: &[u32], out: &mut [u8]) -> Result<usize, Refusal>
     requires { length numbers.now ≤ most_rules }
     ensures { Said (hit_line numbers.now) out.old result out.new }
 {
     let needed = put_hit(numbers, &mut out[..0]);
     if out.len() < needed {
-        return Written::Refused(Refusal::OutputShort { needed, output: 0 });
+        return Err(Refusal::OutputShort { needed, output: 0 });
     }
-    Written::Bytes {
-        bytes: put_hit(numbers, out),
-    }
+    Ok(put_hit(numbers, out))
 }
 
 // The line that says which field of rule `rule` misses, or that the rule matches.
-pub(crate) fn miss_line(rules: &[u32], rule: usize, field: usize, out: &mut [u8]) -> Written
+pub(crate) fn miss_line(
+    rules: &[u32],
+    rule: usize,
+    field: usize,
+    out: &mut [u8],
+) -> Result<usize, Refusal>
     ensures { Said (miss_line rules.now rule field) out.old result out.new }
 {
     let needed = put_miss(rules, rule, field, &mut out[..0]);
     if out.len() < needed {
-        return Written::Refused(Refusal::OutputShort { needed, output: 0 });
+        return Err(Refusal::OutputShort { needed, output: 0 });
     }
-    Written::Bytes {
-        bytes: put_miss(rules, rule, field, out),
-    }
+    Ok(put_miss(rules, rule, field, out))
 }
 
 // `refused`, number, place and extra; it answers how many bytes that makes.
@@ -99,17 +98,11 @@ fn put_name(field: usize, out: &mut [u8], at: usize) -> usize
     ensures { Put out.old at (tab ∷ name_of field) out.new result }
 {
     let p = put(out, at, TAB);
-    if field == 0 {
-        return put_bytes(out, p, &SOURCE);
+    match field {
+        0 => put_bytes(out, p, &SOURCE),
+        1 => put_bytes(out, p, &DESTINATION),
+        2 => put_bytes(out, p, &SOURCE_PORT),
+        3 => put_bytes(out, p, &DESTINATION_PORT),
+        _ => put_bytes(out, p, &PROTOCOL),
     }
-    if field == 1 {
-        return put_bytes(out, p, &DESTINATION);
-    }
-    if field == 2 {
-        return put_bytes(out, p, &SOURCE_PORT);
-    }
-    if field == 3 {
-        return put_bytes(out, p, &DESTINATION_PORT);
-    }
-    put_bytes(out, p, &PROTOCOL)
 }

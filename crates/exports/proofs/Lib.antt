@@ -1,3 +1,2 @@
--- Laws of the C functions: what they answer, and that their promises are exact.
-pub mod Answers
+-- Laws of the C functions: that their promises are exact.
 pub mod Unique

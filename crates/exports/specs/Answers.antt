@@ -10,12 +10,9 @@
 --   Tells words paper P Q      Q is the promise of a C function that writes nothing, P that of its Rattle call: what P
 --                    allows Q allows in eight words, and two answers that Q allows are equal
 --   TellsOne, TellsBoth        the same of one with one lent output, and with two, whose states are then equal too
---   MatchFits        the number of a first match has room for one more
-use Rattle.std.specs.Prelude.{ℕ, ◌+◌, ◌<◌, ◌^◌, ◌≡◌, List, [], ◌∷◌, ◌++◌, get_or, take, drop, replicate}
+use Rattle.std.specs.Prelude.{ℕ, ◌+◌, ◌≡◌, List, [], ◌∷◌, ◌++◌, get_or, take, drop, replicate}
 use Rattle.refusals.specs.Paper.{Paper, refusal, success}
 use Rattle.refusals.specs.Promises.{Fixes}
-use Rattle.rules.specs.declared.line.First.{First}
-use Rattle.rules.specs.declared.line.First.TheVariants.{Refused, Rule, NoRule}
 
 abbrev pub eight : Paper → List ℕ
 eight (refusal number place extra) = number ∷ place ∷ extra ∷ replicate 5 0
@@ -65,8 +62,3 @@ abbrev pub TellsBoth :
 TellsBoth {R} words paper P Q =
     ((r : R) (v x : List ℕ) → P r v x → Q v x (as_eight words (paper r))) ×
     ((v w x y answer other : List ℕ) → Q v x answer → Q w y other → (answer ≡ other) × (v ≡ w) × (x ≡ y))
-
-unfoldable pub MatchFits : First → Type 0
-MatchFits (Refused why) = Unit {0}
-MatchFits (Rule number action) = number < 2 ^ 32
-MatchFits NoRule = Unit {0}

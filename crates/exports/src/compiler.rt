@@ -5,8 +5,9 @@ ghost use Rattle.exports.specs.Answers.{plainly, as_eight};
 ghost use Rattle.exports.specs.Calls.{BuildAnswered, BuildSomeAnswered, BuildOnAnswered};
 
 use crate::answer::of_refusal;
-use builder::build::Built;
+use builder::build::Size;
 use builder::step::Step;
+use refusals::Refusal;
 
 // The values: the numbers of nodes and pool words, which were written to `nodes` and `pool`.
 pub fn wick_build(rules: &[u32], nodes: &mut [u32], pool: &mut [u32], answer: &mut [u64; 8])
@@ -56,21 +57,21 @@ pub fn wick_build_on(
     ));
 }
 
-fn of_step(said: Step) -> [u64; 8]
+fn of_step(said: Result<Step, Refusal>) -> [u64; 8]
     ensures { result ≡ as_eight plainly (built.step_paper said) }
 {
     match said {
-        Step::Refused(why) => of_refusal(why),
-        Step::Whole { nodes, pool } => [0, 0, 0, nodes as u64, pool as u64, 1, 0, 0],
-        Step::Stopped { nodes, pool } => [0, 0, 0, nodes as u64, pool as u64, 0, 0, 0],
+        Err(why) => of_refusal(why),
+        Ok(Step::Whole { nodes, pool }) => [0, 0, 0, nodes as u64, pool as u64, 1, 0, 0],
+        Ok(Step::Stopped { nodes, pool }) => [0, 0, 0, nodes as u64, pool as u64, 0, 0, 0],
     }
 }
 
-fn of_built(said: Built) -> [u64; 8]
+fn of_built(said: Result<Size, Refusal>) -> [u64; 8]
     ensures { result ≡ as_eight plainly (built.paper said) }
 {
     match said {
-        Built::Refused(why) => of_refusal(why),
-        Built::Tree { nodes, pool } => [0, 0, 0, nodes as u64, pool as u64, 0, 0, 0],
+        Err(why) => of_refusal(why),
+        Ok(Size { nodes, pool }) => [0, 0, 0, nodes as u64, pool as u64, 0, 0, 0],
     }
 }

@@ -5,16 +5,17 @@ ghost use Rattle.rule_file.specs.Reading as read;
 ghost use Rattle.exports.specs.Answers.{plainly, as_eight};
 ghost use Rattle.exports.specs.Calls.{RulesWriteAnswered, AclWriteAnswered, RulesReadAnswered};
 
-use crate::answer::{of_refusal, of_written};
+use crate::answer::{of_number, of_refusal};
+use refusals::Refusal;
 use rule_file::kind::Kind;
-use rule_file::read::Read;
+use rule_file::read::Rules;
 
 // The value: the bytes that were written to `text`.
 pub fn wick_rules_write(rules: &[u32], text: &mut [u8], answer: &mut [u64; 8])
     ensures { RulesWriteAnswered rules.now text.old text.new
         answer.new }
 {
-    *answer = of_written(rule_file::write::rules_write(rules, text));
+    *answer = of_number(rule_file::write::rules_write(rules, text));
 }
 
 // The value: the bytes that were written to `text`.
@@ -22,7 +23,7 @@ pub fn wick_acl_write(rules: &[u32], text: &mut [u8], answer: &mut [u64; 8])
     ensures { AclWriteAnswered rules.now text.old text.new
         answer.new }
 {
-    *answer = of_written(rule_file::write::acl_write(rules, text));
+    *answer = of_number(rule_file::write::acl_write(rules, text));
 }
 
 // The values: the number of rules, whose words were written to `rules`; and 1 for an `acl` file, or 0 for a `rules`
@@ -34,12 +35,12 @@ pub fn wick_rules_read(text: &[u8], rules: &mut [u32], answer: &mut [u64; 8])
     *answer = of_read(rule_file::read::rules_read(text, rules));
 }
 
-fn of_read(said: Read) -> [u64; 8]
+fn of_read(said: Result<Rules, Refusal>) -> [u64; 8]
     ensures { result ≡ as_eight plainly (read.paper said) }
 {
     match said {
-        Read::Refused(why) => of_refusal(why),
-        Read::Rules { rules, kind } => [0, 0, 0, rules as u64, of_kind(kind), 0, 0, 0],
+        Err(why) => of_refusal(why),
+        Ok(Rules { rules, kind }) => [0, 0, 0, rules as u64, of_kind(kind), 0, 0, 0],
     }
 }
 

@@ -6,9 +6,10 @@ ghost use Rattle.tree_check.specs.TreeCheck as checked;
 ghost use Rattle.exports.specs.Answers.{plainly, counts_last, first_in_words, as_eight};
 ghost use Rattle.exports.specs.Calls.{TreeAllAnswered, TreeFirstAnswered, TreeCheckAnswered};
 
-use crate::answer::of_refusal;
-use tree_check::check::TreeAnswer;
-use trees::search::{TreeFirst, TreeListed};
+use crate::answer::{in_two, of_refusal};
+use refusals::Refusal;
+use tree_check::check::Figures;
+use trees::search::{First, Listed};
 
 // The values: how many numbers were written to `out`, the nodes visited, the entries compared.
 pub fn wick_tree_all(
@@ -48,52 +49,44 @@ pub fn wick_tree_check(rules: &[u32], nodes: &[u32], pool: &[u32], answer: &mut 
     *answer = of_checked(tree_check::check::tree_check(rules, nodes, pool));
 }
 
-fn of_listed(said: TreeListed) -> [u64; 8]
+fn of_listed(said: Result<Listed, Refusal>) -> [u64; 8]
     ensures { result ≡ as_eight counts_last (listed.paper said) }
 {
     match said {
-        TreeListed::Refused(why) => of_refusal(why),
-        TreeListed::Found {
-            count,
-            visited,
-            compared,
-        } => [0, 0, 0, count as u64, visited as u64, compared as u64, 0, 0],
+        Err(why) => of_refusal(why),
+        Ok(
+            Listed {
+                count,
+                visited,
+                compared,
+            },
+        ) => [0, 0, 0, count as u64, visited as u64, compared as u64, 0, 0],
     }
 }
 
-fn of_first(said: TreeFirst) -> [u64; 8]
+fn of_first(said: Result<First, Refusal>) -> [u64; 8]
     ensures { result ≡ as_eight first_in_words (first.paper said) }
 {
     match said {
-        TreeFirst::Refused(why) => of_refusal(why),
-        TreeFirst::Rule {
-            number,
-            action,
-            visited,
-            compared,
-        } => [
-            0,
-            0,
-            0,
-            number as u64 + 1,
-            visited as u64,
-            compared as u64,
-            action as u64,
-            0,
-        ],
-        TreeFirst::NoRule { visited, compared } => {
-            [0, 0, 0, 0, visited as u64, compared as u64, 0, 0]
+        Err(why) => of_refusal(why),
+        Ok(
+            First {
+                hit,
+                visited,
+                compared,
+            },
+        ) => {
+            let (rule, action) = in_two(hit);
+            [0, 0, 0, rule, visited as u64, compared as u64, action, 0]
         }
     }
 }
 
-fn of_checked(said: TreeAnswer) -> [u64; 8]
+fn of_checked(said: Result<Figures, Refusal>) -> [u64; 8]
     ensures { result ≡ as_eight plainly (checked.paper said) }
 {
     match said {
-        TreeAnswer::Refused(why) => of_refusal(why),
-        TreeAnswer::Accepted { cuts, longest } => {
-            [0, 0, 0, cuts as u64, longest as u64, 0, 0, 0]
-        }
+        Err(why) => of_refusal(why),
+        Ok(Figures { cuts, longest }) => [0, 0, 0, cuts as u64, longest as u64, 0, 0, 0],
     }
 }

@@ -5,8 +5,9 @@ ghost use Rattle.exports.specs.Answers.{plainly, as_eight};
 ghost use Rattle.exports.specs.Calls.{TreeWriteAnswered, TreeReadAnswered};
 ghost use Rattle.exports.specs.Calls.{PartWriteAnswered, PartReadAnswered};
 
-use crate::answer::{of_refusal, of_written};
-use tree_file::read::Read;
+use crate::answer::{of_number, of_refusal};
+use refusals::Refusal;
+use tree_file::read::Counts;
 
 // The value: the bytes that were written to `text`. The tree is for `rules` rules.
 pub fn wick_tree_write(
@@ -19,7 +20,7 @@ pub fn wick_tree_write(
     ensures { TreeWriteAnswered rules nodes.now pool.now text.old
         text.new answer.new }
 {
-    *answer = of_written(tree_file::write::tree_write(rules as usize, nodes, pool, text));
+    *answer = of_number(tree_file::write::tree_write(rules as usize, nodes, pool, text));
 }
 
 // The values: the numbers of rules, nodes and pool words; the last two were written to `nodes` and `pool`.
@@ -41,7 +42,7 @@ pub fn wick_part_write(
     ensures { PartWriteAnswered rules nodes.now pool.now text.old
         text.new answer.new }
 {
-    *answer = of_written(tree_file::write::part_write(rules as usize, nodes, pool, text));
+    *answer = of_number(tree_file::write::part_write(rules as usize, nodes, pool, text));
 }
 
 // The values: the numbers of rules, nodes and pool words; the last two were written to `nodes` and `pool`.
@@ -52,12 +53,12 @@ pub fn wick_part_read(text: &[u8], nodes: &mut [u32], pool: &mut [u32], answer: 
     *answer = of_read(tree_file::read::part_read(text, nodes, pool));
 }
 
-fn of_read(said: Read) -> [u64; 8]
+fn of_read(said: Result<Counts, Refusal>) -> [u64; 8]
     ensures { result ≡ as_eight plainly (read.paper said) }
 {
     match said {
-        Read::Refused(why) => of_refusal(why),
-        Read::Tree { rules, nodes, pool } => {
+        Err(why) => of_refusal(why),
+        Ok(Counts { rules, nodes, pool }) => {
             [0, 0, 0, rules as u64, nodes as u64, pool as u64, 0, 0]
         }
     }

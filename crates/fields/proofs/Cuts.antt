@@ -7,7 +7,7 @@ use mathlib.Core.Logic.{◌↔◌}
 use mathlib.Core.List.{List, []}
 use lib.ListN.{length, get_or, get_or-eq_default}
 use lib.Dec.{leb, ltb}
-use borrow.Author.Tests.{leb-true, le-leb, lt-leb, ltb-true, lt-ltb}
+use borrow.Author.Tests.{leb-true, le-leb, ltb-true, lt-ltb}
 use Rattle.facts.proofs.Bools.{both, join, clash, fails}
 use Rattle.facts.proofs.Cases.{WithinOrOver, at_most, over, within_or_over}
 use Rattle.fields.specs.Boxes.{low_of, high_of}
@@ -36,16 +36,6 @@ module _ (b : List (List ℕ)) (f v : ℕ) where
       go : WithinOrOver (length b) f → f < length b
       go (at_most l) = clash e (sym (past_not_divided l))
       go (over l) = l
-
-  -- a value below the low end does not divide the box
-  pub low_over : v < low_of b f → false ≡ divides b f v
-  unfolding divides
-  low_over l = rw (lt-leb _ _ l)
-
-  -- from the low end on, the high end decides
-  pub high_decides : low_of b f ≤ v → ltb v (high_of b f) ≡ divides b f v
-  unfolding divides
-  high_decides l = rw (le-leb _ _ l)
 
   -- where the value divides the box, the left part is the left side
   pub left_divided : divides b f v ≡ true → left_part b f v ≡ left_of b f v

@@ -16,16 +16,6 @@ use Rattle.fields.proofs.Ranges.{holds_iff_between, range_not_empty}
 module _ (low high : ℕ) where
   -- ---- the tests, as the code makes them
 
-  -- a range that does not begin at 0 is not whole
-  pub begins_later : (low ≡ 0 → ⊥) → false ≡ whole_ports low high
-  unfolding whole_ports
-  begins_later d = rw (ne_eqb low 0 d)
-
-  -- one that begins at 0 is whole exactly where it ends at the largest port
-  pub end_decides : low ≡ 0 → eqb high largest_port ≡ whole_ports low high
-  unfolding whole_ports
-  end_decides e = rw (eq-eqb low 0 e)
-
   -- an absent port matches exactly the whole range
   pub absent_matches : {x : ℕ} → x ≡ absent_port → ports_match low high x ≡ whole_ports low high
   unfolding ports_match

@@ -1,6 +1,6 @@
 -- Prefixes of addresses of any width: the tests one by one, and that a good prefix is its range.
-use Prim.Native.Nat.{ℕ, zero, suc, ◌+◌, ◌-◌, ◌*◌, ◌/◌, ◌%◌, ◌^◌, ◌≤◌, ◌<◌, zero-le}
-use native.Mathlib.Nat.{div-add-mod', mod-lt, mod-one, div-eq_of_lt, div-eq_of_lt-le, one-mul}
+use Prim.Native.Nat.{ℕ, zero, suc, ◌+◌, ◌-◌, ◌*◌, ◌/◌, ◌%◌, ◌^◌, ◌≤◌, ◌<◌, min, zero-le}
+use native.Mathlib.Nat.{div-add-mod', mod-lt, mod-one, div-eq_of_lt, div-eq_of_lt-le, mul-div_cancel, div_self, min-eq_left, min-eq_right}
 use native.Mathlib.Numerals.{add-one}
 use native.Mathlib.Omega.{arith}
 use mathlib.Core.Bool.{true, false, ◌&&◌}
@@ -9,7 +9,7 @@ use mathlib.Core.Logic.{◌↔◌}
 use lib.Dec.{leb, ltb, eqb}
 use lib.Bits.{bit_xor, xor_shr}
 use lib.Count.{count_trailing_zeros, under}
-use lib.Pow.{pow_pos, pow_mono, pow-lt, pow-add, mod-pow-add, shl_exact, shl-shr}
+use lib.Pow.{pow_pos, pow_mono, pow-lt, pow-add, mod-pow-add, shl-shr}
 use borrow.Author.Tests.{le-leb, lt-leb, leb-true, eqb-true, eq-eqb, le-ltb}
 use Rattle.facts.proofs.Bools.{both, join, same_test}
 use Rattle.facts.proofs.Cases.{WithinOrOver, within_or_over, at_most, over}
@@ -102,15 +102,21 @@ pub span_at_most : (w len : ℕ) → span w len ≤ 2 ^ w
 unfolding span
 span_at_most w len = pow_mono (omega arith)
 
--- past the width, one word has the first bits
-pub long_span : (w len : ℕ) → w < len → 1 ≡ span w len
+-- all words of the width, shifted to the right by the length, or by the width where that is less, are the span
+pub shifted_span : (w len : ℕ) → 2 ^ w / 2 ^ min len w ≡ span w len
 unfolding span
-long_span w len l = let e : w - len ≡ 0 = omega arith in rw e
-
--- within the width, the span is 1 shifted by the bits that are left
-pub shifted_span : (w len : ℕ) {k : ℕ} → w < 64 → k ≡ w - len → 1 * 2 ^ k % 2 ^ 64 ≡ span w len
-unfolding span
-shifted_span w len {k} u e = shl_exact 1 k 64 (omega arith) (omega arith) ∙ one-mul (2 ^ k) ∙ ap (λ (j : ℕ). 2 ^ j) e
+shifted_span w len = by (within_or_over len w)
+  where
+    by : WithinOrOver len w → 2 ^ w / 2 ^ min len w ≡ 2 ^ (w - len)
+    by (at_most h) =
+        let bits : w ≡ (w - len) + len = omega arith in
+        rw (min-eq_left h)
+        (ap (λ (j : ℕ). 2 ^ j / 2 ^ len) bits ∙ ap (λ (j : ℕ). j / 2 ^ len) (pow-add 2 (w - len) len) ∙
+        mul-div_cancel (2 ^ (w - len)) (pow_pos len))
+    by (over h) =
+        let none : w - len ≡ 0 = omega arith in
+        let capped : min len w ≡ w = min-eq_right (omega arith) in
+        rw capped (rw none (div_self (pow_pos w)))
 
 -- a range that ends before the address does not meet it
 pub ends_before : (w address len from to : ℕ) → to < address → false ≡ prefix_meets w address len from to

@@ -4,8 +4,8 @@
 --   Legal h             a header that there can be
 use Rattle.std.specs.Prelude.{ℕ, ◌≡◌, List, length, get_or, leb, eqb}
 use Rattle.refusals.specs.declared.Refusal.TheVariants.{HeaderWrong}
-use Rattle.refusals.specs.declared.Verdict.{Verdict}
-use Rattle.refusals.specs.declared.Verdict.TheVariants.{Fine}
+use Rattle.refusals.specs.Verdict.{Verdict}
+use Rattle.refusals.specs.Verdict.{Fine}
 use Rattle.refusals.specs.Order.{refuse_unless, ◌then◌, in_turn}
 use Rattle.fields.specs.Words.{field_count, top_of}
 

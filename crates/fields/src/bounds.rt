@@ -1,5 +1,5 @@
 // Boxes as values: for each field its low and its high end, both included.
-ghost use Rattle.std.specs.Prelude.{◌+◌, ◌<◌, ◌≡◌};
+ghost use Rattle.std.specs.Prelude.{◌+◌, ◌<◌, ◌≡◌, ◌∷◌, []};
 ghost use Rattle.fields.specs.Boxes.{root_box};
 ghost use Rattle.fields.specs.Cuts.{divides, left_part, right_part};
 
@@ -12,26 +12,18 @@ pub type Bounds = [[u32; 2]; FIELDS];
 pub fn root_box() -> Bounds
     ensures { result ≡ root_box }
 {
-    [
-        [0, TOPS[0]],
-        [0, TOPS[1]],
-        [0, TOPS[2]],
-        [0, TOPS[3]],
-        [0, TOPS[4]],
-    ]
+    TOPS.map(
+        |top: u32| -> [u32; 2]
+            ensures { result ≡ 0 ∷ top ∷ [] }
+        { [0, top] },
+    )
 }
 
 // Whether the value is at least the low end and below the high end of the field. Past the last field it is not.
 pub fn divides(bounds: Bounds, field: usize, value: u32) -> bool
     ensures { result ≡ divides bounds field value }
 {
-    if FIELDS <= field {
-        return false;
-    }
-    if value < bounds[field][0] {
-        return false;
-    }
-    value < bounds[field][1]
+    field < FIELDS && (bounds[field][0]..bounds[field][1]).contains(&value)
 }
 
 // What a cut leaves its left child: low to value. A value that does not divide the box leaves the box.
@@ -58,7 +50,8 @@ pub fn right_part(bounds: Bounds, field: usize, value: u32) -> Bounds
     part
 }
 
-// The value after one that is below the high end, and so not the largest.
+// The value after one that is below the high end, and so not the largest. The end is passed since it shows that the sum
+// fits its type.
 fn after(value: u32, high: u32) -> u32
     requires { value < high }
     ensures { result ≡ value + 1 }

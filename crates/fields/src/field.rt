@@ -60,8 +60,7 @@ pub fn field_bounds(field: Field) -> [u32; 2]
 pub fn field_meets(field: Field, ends: [u32; 2]) -> bool
     ensures { result ≡ field_meets field ends }
 {
-    let from = ends[0];
-    let to = ends[1];
+    let [from, to] = ends;
     match field {
         Field::Prefix { address, len } => prefix_meets(address, len, from, to),
         Field::Range {

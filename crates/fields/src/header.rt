@@ -3,28 +3,25 @@ ghost use Rattle.std.specs.Prelude.{◌≡◌};
 ghost use Rattle.fields.specs.Headers.{header_verdict};
 
 use crate::port::ABSENT_PORT;
-use crate::prefix::LAST_WORD;
-use refusals::{Refusal, Verdict};
+use refusals::Refusal;
 
 // The number of fields, and so of a header's words.
 pub const FIELDS: usize = 5;
 
 // The largest value of each field: source, destination, source port, destination port, protocol.
-pub(crate) const TOPS: [u32; FIELDS] = [LAST_WORD, LAST_WORD, ABSENT_PORT, ABSENT_PORT, 255];
+pub(crate) const TOPS: [u32; FIELDS] = [u32::MAX, u32::MAX, ABSENT_PORT, ABSENT_PORT, 255];
 
 // Whether a header is legal. The length is looked at first, and then the fields, from the lowest.
-pub fn header_verdict(header: &[u32]) -> Verdict
+pub fn header_verdict(header: &[u32]) -> Result<(), Refusal>
     ensures { result ≡ header_verdict header.now }
 {
     if header.len() != FIELDS {
-        return Verdict::Refused(Refusal::HeaderWrong { field: FIELDS });
+        return Err(Refusal::HeaderWrong { field: FIELDS });
     }
-    let mut field = 0;
-    while field < FIELDS {
+    for field in 0..FIELDS {
         if TOPS[field] < header[field] {
-            return Verdict::Refused(Refusal::HeaderWrong { field });
+            return Err(Refusal::HeaderWrong { field });
         }
-        field += 1;
     }
-    Verdict::Fine
+    Ok(())
 }

@@ -27,17 +27,15 @@ pub(crate) fn ports_end(low: u32, high: u32) -> u32
     ensures { result ≡ ports_end low high }
 {
     if whole_ports(low, high) {
-        return ABSENT_PORT;
+        ABSENT_PORT
+    } else {
+        high
     }
-    high
 }
 
 // Whether the range is that of all ports.
 fn whole_ports(low: u32, high: u32) -> bool
     ensures { result ≡ whole_ports low high }
 {
-    if low != 0 {
-        return false;
-    }
-    high == LARGEST_PORT
+    low == 0 && high == LARGEST_PORT
 }

@@ -13,11 +13,12 @@ pub fn argument_count(ledger: &mut u64, handle: Handle) -> usize
     ensures { ledger.new ≡ enter ledger.old (counted result) }
 {
     *ledger = one_more(*ledger, 0);
-    let mut count = 0usize;
-    while count < usize::MAX && is_given(handle, count) {
-        count += 1;
+    for count in 0..usize::MAX {
+        if !is_given(handle, count) {
+            return count;
+        }
     }
-    count
+    usize::MAX
 }
 
 // Whether there is an argument `i`: one that has more bytes than there is room for is there too.

@@ -5,5 +5,5 @@ ghost use Rattle.std.specs.Prelude.{◌≡◌, ◌+◌, ◌%◌, ◌^◌};
 pub(crate) fn one_more(ledger: u64, bytes: usize) -> u64
     ensures { result ≡ (ledger + (1 + bytes) % 2 ^ 64) % 2 ^ 64 }
 {
-    std::num::wrapping_add_u64(ledger, std::num::wrapping_add_u64(1, bytes as u64))
+    ledger.wrapping_add((bytes as u64).wrapping_add(1))
 }

@@ -87,10 +87,7 @@ impl Descriptor {
 fn open_number(number: i32) -> bool
     ensures { result ≡ not_negative number }
 {
-    if number < 0 {
-        return false;
-    }
-    true
+    number >= 0
 }
 
 // Standard input is open from the start.

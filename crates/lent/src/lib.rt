@@ -5,7 +5,7 @@
 // Each takes any words and any place. Rests on facts.
 #![tactic(auto)]
 
-ghost use Rattle.std.specs.Prelude.{◌-◌, min, ◌≡◌, set};
+ghost use Rattle.std.specs.Prelude.{◌≡◌, set};
 ghost use Rattle.std.proofs.lemmas.List.Edits.{sets};
 
 // Puts one word; a place past the end changes nothing.
@@ -21,25 +21,11 @@ pub fn store(words: &mut [u32], at: usize, word: u32)
 pub fn store_all(words: &mut [u32], at: usize, from: &[u32])
     ensures { words.new ≡ sets words.old at from.now }
 {
-    let count = fitting(words.len(), at, from.len());
-    let mut i = 0;
-    while i < count {
+    // `copy_from_slice` calls `memmove`, which the archive does without, and is slower for short runs.
+    let count = from.len().min(words.len().saturating_sub(at));
+    for i in 0..count {
         words[at + i] = from[i];
-        i += 1;
     }
-}
-
-// How many of `count` words there is room for from place `at` on, where there are `room` places.
-fn fitting(room: usize, at: usize, count: usize) -> usize
-    ensures { result ≡ min count (room - at) }
-{
-    if room <= at {
-        return 0;
-    }
-    if room - at < count {
-        return room - at;
-    }
-    count
 }
 
 // A word as a place or a count.

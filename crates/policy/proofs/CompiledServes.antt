@@ -5,7 +5,7 @@ use native.Mathlib.Omega.{arith}
 use mathlib.Core.Path.{◌≡◌}
 use mathlib.Core.List.{List}
 use mathlib.Core.Option.{some}
-use Rattle.refusals.specs.declared.Verdict.TheVariants.{Fine}
+use Rattle.refusals.specs.Verdict.{Fine}
 use Rattle.rules.specs.Words.{rule_count}
 use Rattle.trees.specs.Words.{node_words, most_nodes, most_pool}
 use Rattle.trees.proofs.Sizes.{sizes_fine_iff}

@@ -9,8 +9,8 @@ use mathlib.Core.Path.{◌≡◌, refl, sym, ap, ◌∙◌}
 use mathlib.Core.List.{List, [], ◌∷◌}
 use lib.ListN.{length, replicate, length-append}
 use Rattle.facts.proofs.Under.{all_under_iff_at, all_under_iff_has}
-use Rattle.refusals.specs.declared.Verdict.{Verdict}
-use Rattle.refusals.specs.declared.Verdict.TheVariants.{Fine, Refused}
+use Rattle.refusals.specs.Verdict.{Verdict}
+use Rattle.refusals.specs.Verdict.{Fine, Refused}
 use Rattle.refusals.proofs.Order.{then_fine, then_refused, room_fine_iff}
 use Rattle.fields.specs.Boxes.{root_box}
 use Rattle.rules.specs.Words.{most_rules, rule_count}

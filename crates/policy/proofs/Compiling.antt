@@ -1,11 +1,14 @@
 -- A list is compiled: what the build says of it, and the text of what is built.
+use Rattle.std.specs.Prelude.{Err, Result}
+use Rattle.builder.specs.declared.build.Size.{Size}
+use Rattle.builder.specs.Said.{BuiltTree}
 use Prim.Native.Nat.{ℕ, ◌*◌, ◌≤◌}
 use native.Mathlib.Omega.{arith}
 use mathlib.Core.Path.{◌≡◌, refl, ap}
 use mathlib.Core.List.{List, [], ◌∷◌}
 use lib.ListN.{length, take}
 use Rattle.refusals.specs.declared.Refusal.{Refusal}
-use Rattle.refusals.specs.declared.Verdict.TheVariants as verdict
+use Rattle.refusals.specs.Verdict as verdict
 use Rattle.refusals.proofs.Order.{then_fine, then_refused}
 use Rattle.refusals.proofs.Promises.{refused_by, fine_by, said_by, left_written, writes_refused, writes_after}
 use Rattle.rules.specs.Words.{rule_count}
@@ -15,11 +18,7 @@ use Rattle.tree_check.proofs.Accepts.{accepted}
 use Rattle.built.specs.Layout.{size}
 use Rattle.built.specs.BuiltTree.{built_tree, built_nodes, built_pool, build_verdict}
 use Rattle.built.proofs.BuiltAccepted.{built_accepted}
-use Rattle.builder.specs.declared.build.Built.{Built}
-use Rattle.builder.specs.declared.build.Built.TheVariants as built
 use Rattle.builder.specs.Build as build
-use Rattle.text.specs.declared.put.Written.{Written}
-use Rattle.text.specs.declared.put.Written.TheVariants.{Refused}
 use Rattle.tree_file.specs.TreeLines.{Spelling}
 use Rattle.tree_file.specs.Writing.{TreeWritten}
 use Rattle.tree_file.proofs.SpellingVerdict.{fine_of_spelling}
@@ -34,17 +33,17 @@ built_spelling rs e =
     record { few = omega (arith, (good_of_fine rs t.list).few); sizes = t.sizes; spelt = t.spelt }
 
 module _
-    (rs : List ℕ) {nodes pool nodes' pool' : List ℕ} {r : Built} (t : build.TreeBuilt rs nodes pool r nodes' pool')
+    (rs : List ℕ) {nodes pool nodes' pool' : List ℕ} {r : Result Size Refusal} (t : build.TreeBuilt rs nodes pool r nodes' pool')
     (node_room : length nodes ≡ most_nodes * node_words) (pool_room : length pool ≡ most_pool) where
   -- what the build refuses is refused
-  pub text_refused : {why : Refusal} (out : List ℕ) → r ≡ built.Refused why → TextCompiled rs out (Refused why) out
+  pub text_refused : {why : Refusal} (out : List ℕ) → r ≡ Err why → TextCompiled rs out (Err why) out
   text_refused {why} out e =
       let u : build_verdict rs (length nodes) (length pool) ≡ verdict.Refused why =
       refused_by (said_by t.0) (ap build.paper e) in
       let v : largest_build rs ≡ verdict.Refused why = rw (node_room, pool_room) at u in
       writes_refused (then_refused _ v) refl refl
 
-  module _ {n p : ℕ} (e : r ≡ built.Tree n p) where
+  module _ {n p : ℕ} (e : r ≡ BuiltTree n p) where
     says :
         (build_verdict rs (length nodes) (length pool) ≡ verdict.Fine) × (n ∷ p ∷ [] ≡ build.built_values rs)
     says = fine_by (said_by t.0) (ap build.paper e)
@@ -66,7 +65,7 @@ module _
 
     -- what is written of them is the text of the tree
     pub text_written :
-        {before after : List ℕ} {w : Written} →
+        {before after : List ℕ} {w : Result ℕ Refusal} →
         TreeWritten (rule_count rs) (take (n * node_words) nodes') (take p pool') before w after →
         TextCompiled rs before w after
     unfolding built_text

@@ -1,5 +1,4 @@
 -- The laws of the policy, by subject.
-pub mod Bytes
 pub mod Listing
 pub mod Taking
 pub mod Servers

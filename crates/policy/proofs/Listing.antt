@@ -1,4 +1,6 @@
 -- The list of the rule file is taken: what the reader of rules says, in words instead of rules.
+use Rattle.std.specs.Prelude.{Err, Result, Ok}
+use Rattle.rule_file.specs.declared.read.Rules.{Rules}
 use Prim.Native.Nat.{ℕ, ◌*◌, ◌^◌, ◌≤◌}
 use native.Mathlib.Omega.{arith}
 use mathlib.Core.Path.{◌≡◌, refl, sym, ap, subst}
@@ -9,7 +11,7 @@ use Rattle.facts.specs.Lists.{written}
 use Rattle.facts.proofs.Setting.{written_front}
 use Rattle.refusals.specs.declared.Refusal.{Refusal}
 use Rattle.refusals.specs.declared.Refusal.TheVariants.{FileNotRead}
-use Rattle.refusals.specs.declared.Verdict.TheVariants as verdict
+use Rattle.refusals.specs.Verdict as verdict
 use Rattle.refusals.specs.Paper.{success}
 use Rattle.refusals.proofs.Order.{refused_not_fine, room_fine_iff}
 use Rattle.refusals.proofs.Promises.{refused_by, fine_by, said_by, writes_refused}
@@ -20,15 +22,11 @@ use Rattle.rules.proofs.Lists.{good_of_fine}
 use Rattle.text.specs.Line.{EachUnder}
 use Rattle.text.specs.Text.{Reading, good, refused}
 use Rattle.rule_file.specs.declared.kind.Kind.{Kind}
-use Rattle.rule_file.specs.declared.read.Read.{Read}
-use Rattle.rule_file.specs.declared.read.Read.TheVariants as read
 use Rattle.rule_file.specs.Kinds.{kind_number, kind_of}
 use Rattle.rule_file.specs.RuleText.{rules_in}
-use Rattle.rule_file.specs.Reading.{words_in, read_verdict, RulesRead}
+use Rattle.rule_file.specs.Reading.{words_in, read_verdict, RulesRead, HoldsRules}
 use Rattle.rule_file.specs.Reading as reader
 use Rattle.rule_file.proofs.RoundTrips.{good_of_read, below_of_read}
-use Rattle.policy.specs.declared.list.Listed.{Listed}
-use Rattle.policy.specs.declared.list.Listed.TheVariants.{Refused, Words}
 use Rattle.policy.specs.Files.{list_in}
 use Rattle.policy.specs.TakeList.{ListTaken}
 
@@ -40,16 +38,16 @@ pub words_whole :
 words_whole s (refused why) e = refl
 words_whole s (good ws) e = omega (arith, (good_of_fine ws (good_of_read s ws e)).whole)
 
-module _ (s : List ℕ) {before after : List ℕ} {r : Read} (t : RulesRead s before r after) where
+module _ (s : List ℕ) {before after : List ℕ} {r : Result Rules Refusal} (t : RulesRead s before r after) where
   -- its refusal
-  pub list_refused : {why : Refusal} → r ≡ read.Refused why → ListTaken (some s) before (Refused why) after
+  pub list_refused : {why : Refusal} → r ≡ Err why → ListTaken (some s) before (Err why) after
   unfolding list_in
   list_refused {why} e =
       let v : read_verdict (rules_in s) (length before) ≡ verdict.Refused why =
       refused_by (said_by t) (ap reader.paper e) in
       writes_refused v refl (left_found t v)
 
-  module _ {n : ℕ} {k : Kind} (e : r ≡ read.Rules n k) where
+  module _ {n : ℕ} {k : Kind} (e : r ≡ HoldsRules n k) where
     says :
         (read_verdict (rules_in s) (length before) ≡ verdict.Fine) ×
         (n ∷ kind_number k ∷ [] ≡ rule_count (words_in (rules_in s)) ∷ kind_number (kind_of s) ∷ [])
@@ -61,7 +59,7 @@ module _ (s : List ℕ) {before after : List ℕ} {r : Read} (t : RulesRead s be
         omega (arith, count, words_whole s (rules_in s) refl)
 
     -- its rules, each with its words
-    pub list_found : ListTaken (some s) before (Words (n * rule_words)) after
+    pub list_found : ListTaken (some s) before (Ok (n * rule_words)) after
     unfolding list_in
     list_found = writes_fine says.0 (ap (λ (k : ℕ). success (k ∷ [])) size) (left_written t says.0)
 
@@ -74,13 +72,13 @@ module _ (s : List ℕ) {before after : List ℕ} {r : Read} (t : RulesRead s be
         go (good ws) q = omega (arith, rw q at size, (room_fine_iff (length ws) (length before)).0 (rw q at says.0))
 
 -- a file that was not read
-pub list_not_read : (before : List ℕ) → ListTaken none before (Refused FileNotRead) before
+pub list_not_read : (before : List ℕ) → ListTaken none before (Err FileNotRead) before
 unfolding list_in
 list_not_read before = writes_refused {why = FileNotRead} refl refl refl
 
 -- what is taken of a file goes by its text alone
 pub list_by :
-    (f g : Option (List ℕ)) {before after : List ℕ} {r : Listed} → g ≡ f → ListTaken g before r after →
+    (f g : Option (List ℕ)) {before after : List ℕ} {r : Result ℕ Refusal} → g ≡ f → ListTaken g before r after →
     ListTaken f before r after
 list_by f g {before} {after} {r} e t = subst (λ (x : Option (List ℕ)). ListTaken x before r after) e t
 
@@ -88,7 +86,7 @@ list_by f g {before} {after} {r} e t = subst (λ (x : Option (List ℕ)). ListTa
 
 -- a list that is taken is the list that the file holds, and stands in front of the lent words
 pub taken_list :
-    (f : Option (List ℕ)) {before after : List ℕ} {n : ℕ} → ListTaken f before (Words n) after →
+    (f : Option (List ℕ)) {before after : List ℕ} {n : ℕ} → ListTaken f before (Ok n) after →
     (list_in f ≡ good (take n after)) × (n ≤ length after)
 unfolding written
 taken_list f {before} {after} {n} t = go (list_in f) refl
@@ -107,9 +105,9 @@ taken_list f {before} {after} {n} t = go (list_in f) refl
 
 -- so it is where the answer says so
 pub list_taken :
-    (f : Option (List ℕ)) {before after : List ℕ} {l : Listed} {n : ℕ} → ListTaken f before l after → l ≡ Words n →
+    (f : Option (List ℕ)) {before after : List ℕ} {l : Result ℕ Refusal} {n : ℕ} → ListTaken f before l after → l ≡ Ok n →
     (list_in f ≡ good (take n after)) × (n ≤ length after)
-list_taken f {before} {after} t e = taken_list f (subst (λ (x : Listed). ListTaken f before x after) e t)
+list_taken f {before} {after} t e = taken_list f (subst (λ (x : Result ℕ Refusal). ListTaken f before x after) e t)
 
 -- the list that a file holds is good
 pub list_good : (f : Option (List ℕ)) {rs : List ℕ} → list_in f ≡ good rs → list_verdict rs ≡ verdict.Fine

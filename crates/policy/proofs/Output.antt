@@ -9,7 +9,7 @@ use lib.ListN.{length}
 use lib.Seq.{take-length}
 use borrow.Author.Tests.{le-leb}
 use Rattle.refusals.specs.declared.Refusal.{Refusal}
-use Rattle.refusals.specs.declared.Verdict.TheVariants.{Fine, Refused}
+use Rattle.refusals.specs.Verdict.{Fine, Refused}
 use Rattle.refusals.specs.Order.{◌then◌}
 use Rattle.refusals.proofs.Order.{refused_not_fine, holds_fine, then_fine, then_fine_iff, room_fine_iff}
 use Rattle.rules.specs.Words.{rule_words, most_rules}

@@ -1,4 +1,9 @@
 -- Who serves: the tree check decides; and whoever serves answers as the list does.
+use Rattle.policy.specs.declared.tree.Words.{Words}
+use Rattle.policy.specs.Said.{TakenWords}
+use Rattle.tree_check.specs.declared.check.Figures.{Figures}
+use Rattle.tree_check.specs.Said.{Accepted}
+use Rattle.std.specs.Prelude.{Err, Result, Ok}
 use Prim.Native.Nat.{ℕ, min, ◌≤◌}
 use native.Mathlib.Omega.{arith}
 use mathlib.Core.Bool.{false}
@@ -6,21 +11,17 @@ use mathlib.Core.Path.{◌≡◌, refl, sym, ap, ◌∙◌}
 use mathlib.Core.List.{List, []}
 use lib.ListN.{length, take, length-take}
 use Rattle.refusals.specs.declared.Refusal.{Refusal}
-use Rattle.refusals.specs.declared.Verdict.{Verdict}
-use Rattle.refusals.specs.declared.Verdict.TheVariants as verdict
+use Rattle.refusals.specs.Verdict.{Verdict}
+use Rattle.refusals.specs.Verdict as verdict
 use Rattle.refusals.proofs.Promises.{refused_by, fine_by}
-use Rattle.tree_check.specs.declared.check.TreeAnswer.{TreeAnswer}
-use Rattle.tree_check.specs.declared.check.TreeAnswer.TheVariants as checked
 use Rattle.tree_check.specs.TreeCheck.{check_verdict, TreeChecked}
 use Rattle.tree_check.specs.TreeCheck as check
 use Rattle.console.specs.Replies.{search_verdict, search_list, answer_to}
 use Rattle.console.proofs.Agreeing.{same_answer}
-use Rattle.policy.specs.declared.tree.Taken.{Taken}
-use Rattle.policy.specs.declared.tree.Taken.TheVariants.{Refused, Words}
 use Rattle.policy.specs.declared.serving.Serving.{Serving}
 use Rattle.policy.specs.WhoServes.{by_tree, serving, serving_of}
 use Rattle.policy.specs.Output.{by_list, answers_by}
-use Rattle.policy.proofs.Bytes.{take_within}
+use Rattle.std.proofs.lemmas.List.{take_min}
 
 -- ---- by a verdict
 
@@ -38,16 +39,16 @@ serving_fine ns es e = rw e
 
 -- ---- what the tree check said
 
-module _ (rs ns es : List ℕ) {r : TreeAnswer} (c : TreeChecked rs ns es r) where
+module _ (rs ns es : List ℕ) {r : Result Figures Refusal} (c : TreeChecked rs ns es r) where
   -- its refusal
   pub check_refused :
-      {why : Refusal} → r ≡ checked.Refused why →
+      {why : Refusal} → r ≡ Err why →
       serving (verdict.Refused why) [] [] ≡ serving (check_verdict rs ns es) ns es
   check_refused {why} e = serving_refused ns es (refused_by c {why = why} (ap check.paper e))
 
   -- a tree that it accepts
   pub check_accepted :
-      {cuts longest : ℕ} → r ≡ checked.Accepted cuts longest →
+      {cuts longest : ℕ} → r ≡ Accepted cuts longest →
       by_tree (length ns) (length es) ≡ serving (check_verdict rs ns es) ns es
   check_accepted e = serving_fine ns es (fine_by c (ap check.paper e)).0
 
@@ -55,20 +56,20 @@ module _ (rs ns es : List ℕ) {r : TreeAnswer} (c : TreeChecked rs ns es r) whe
 
 -- a refused file leaves the list to serve
 pub serves_list :
-    {t : Taken} {why : Refusal} (rs nodes pool : List ℕ) {r : Serving} → t ≡ Refused why →
+    {t : Result Words Refusal} {why : Refusal} (rs nodes pool : List ℕ) {r : Serving} → t ≡ Err why →
     r ≡ serving (verdict.Refused why) [] [] → r ≡ serving_of t rs nodes pool
 unfolding serving_of
 serves_list rs nodes pool e q = q ∙ rw e
 
 -- of words that were taken the check decides
 pub serves_checked :
-    {t : Taken} {n p a b : ℕ} (rs nodes pool : List ℕ) {r : Serving} → t ≡ Words n p → a ≡ min n (length nodes) →
+    {t : Result Words Refusal} {n p a b : ℕ} (rs nodes pool : List ℕ) {r : Serving} → t ≡ TakenWords n p → a ≡ min n (length nodes) →
     b ≡ min p (length pool) →
     r ≡ serving (check_verdict rs (take a nodes) (take b pool)) (take a nodes) (take b pool) →
     r ≡ serving_of t rs nodes pool
 unfolding serving_of
 serves_checked {n = n} {p = p} rs nodes pool e x y q =
-    q ∙ rw (x, y, take_within n nodes, take_within p pool) (sym (rw e))
+    q ∙ rw (x, y, take_min n nodes, take_min p pool) (sym (rw e))
 
 -- ---- whoever serves answers as the list does
 
@@ -89,27 +90,28 @@ serving_as_list rs ns es nodes pool verdict.Fine ok x y h =
 
 -- the front of a list, as long as it is, is its front
 front_again : (n : ℕ) (l : List ℕ) → take (length (take n l)) l ≡ take n l
-front_again n l = ap (λ (k : ℕ). take k l) (length-take n l) ∙ take_within n l
+front_again n l = ap (λ (k : ℕ). take k l) (length-take n l) ∙ take_min n l
 
 -- whatever was taken of the tree file, by whoever serves every header gets the answer that the list gives
 pub served_as_list :
-    (t : Taken) (rs nodes pool h : List ℕ) → answers_by (serving_of t rs nodes pool) rs nodes pool h ≡ by_list rs h
+    (t : Result Words Refusal) (rs nodes pool h : List ℕ) → answers_by (serving_of t rs nodes pool) rs nodes pool h ≡ by_list rs h
 unfolding serving_of serving
-served_as_list (Refused why) rs nodes pool h = list_alone rs _ _ h
-served_as_list (Words n p) rs nodes pool h =
-    serving_as_list rs (take n nodes) (take p pool) nodes pool _ (λ e. e) (front_again n nodes) (front_again p pool) h
+served_as_list (Err why) rs nodes pool h = list_alone rs _ _ h
+served_as_list (Ok taken) rs nodes pool h =
+    serving_as_list rs (take taken.nodes nodes) (take taken.pool pool) nodes pool _ (λ e. e)
+    (front_again taken.nodes nodes) (front_again taken.pool pool) h
 
 -- the words of whoever serves stand within the lent ones
 pub served_within :
-    (t : Taken) (rs nodes pool : List ℕ) →
+    (t : Result Words Refusal) (rs nodes pool : List ℕ) →
     ((serving_of t rs nodes pool).nodes ≤ length nodes) × ((serving_of t rs nodes pool).pool ≤ length pool)
 unfolding serving_of serving
-served_within (Refused why) rs nodes pool = (omega arith, omega arith)
-served_within (Words n p) rs nodes pool = go (check_verdict rs (take n nodes) (take p pool))
+served_within (Err why) rs nodes pool = (omega arith, omega arith)
+served_within (Ok taken) rs nodes pool = go (check_verdict rs (take taken.nodes nodes) (take taken.pool pool))
   where
     go :
         (v : Verdict) →
-        ((serving v (take n nodes) (take p pool)).nodes ≤ length nodes) ×
-        ((serving v (take n nodes) (take p pool)).pool ≤ length pool)
+        ((serving v (take taken.nodes nodes) (take taken.pool pool)).nodes ≤ length nodes) ×
+        ((serving v (take taken.nodes nodes) (take taken.pool pool)).pool ≤ length pool)
     go (verdict.Refused why) = (omega arith, omega arith)
-    go verdict.Fine = (omega (arith, length-take n nodes), omega (arith, length-take p pool))
+    go verdict.Fine = (omega (arith, length-take taken.nodes nodes), omega (arith, length-take taken.pool pool))

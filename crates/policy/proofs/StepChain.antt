@@ -6,7 +6,7 @@ use mathlib.Core.Path.{◌≡◌, refl, sym, ◌∙◌}
 use mathlib.Core.List.{List}
 use mathlib.Core.Option.{some}
 use borrow.Author.Tests.{lt-leb, le-leb}
-use Rattle.refusals.specs.declared.Verdict.TheVariants.{Fine}
+use Rattle.refusals.specs.Verdict.{Fine}
 use Rattle.refusals.specs.Order.{◌then◌}
 use Rattle.refusals.proofs.Order.{then_fine, then_fine_iff}
 use Rattle.rules.specs.Words.{rule_count}

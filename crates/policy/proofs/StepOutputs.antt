@@ -5,7 +5,7 @@ use mathlib.Core.List.{List, ◌++◌}
 use mathlib.Core.Option.{Option}
 use lib.ListN.{length}
 use Rattle.refusals.specs.declared.Refusal.{Refusal}
-use Rattle.refusals.specs.declared.Verdict.TheVariants.{Fine, Refused}
+use Rattle.refusals.specs.Verdict.{Fine, Refused}
 use Rattle.text.specs.Text.{Reading, good, refused}
 use Rattle.tree_file.specs.Reading.{nodes_in, pool_in}
 use Rattle.policy.specs.Files.{list_in, part_of, most_file}

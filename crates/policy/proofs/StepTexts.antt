@@ -1,4 +1,7 @@
 -- One step of a compile: what the build says of it, and the text of what stands then.
+use Rattle.std.specs.Prelude.{Err, Result}
+use Rattle.builder.specs.declared.step.Step.{Step}
+use Rattle.builder.specs.Said.{Stopped, Whole}
 use Prim.Native.Nat.{ℕ, ◌*◌, ◌≤◌}
 use mathlib.Core.Bool.{Bool, true, false, cond}
 use mathlib.Core.Path.{◌≡◌, refl, ap}
@@ -6,8 +9,8 @@ use mathlib.Core.List.{List, [], ◌∷◌}
 use lib.ListN.{length, take}
 use lib.Dec.{leb}
 use Rattle.refusals.specs.declared.Refusal.{Refusal}
-use Rattle.refusals.specs.declared.Verdict.{Verdict}
-use Rattle.refusals.specs.declared.Verdict.TheVariants as verdict
+use Rattle.refusals.specs.Verdict.{Verdict}
+use Rattle.refusals.specs.Verdict as verdict
 use Rattle.refusals.specs.Order.{◌then◌}
 use Rattle.refusals.specs.Paper.{success}
 use Rattle.refusals.proofs.Order.{then_fine, then_refused}
@@ -17,10 +20,7 @@ use Rattle.built.specs.Trees.{Tree}
 use Rattle.built.specs.Layout.{size, pooled, laid}
 use Rattle.built.specs.Stops.{up_to}
 use Rattle.built.specs.BuiltTree.{tree_fits}
-use Rattle.builder.specs.declared.step.Step.{Step}
-use Rattle.builder.specs.declared.step.Step.TheVariants.{Refused, Whole, Stopped}
 use Rattle.builder.specs.Build.{step_paper, step_values, StepBuilt}
-use Rattle.text.specs.declared.put.Written.{Written}
 use Rattle.text.specs.Words.{tree_word, part_word}
 use Rattle.text.specs.Said.{paper}
 use Rattle.tree_file.specs.TreeLines.{Spelling}
@@ -42,10 +42,10 @@ word_said e t w q = go (leb (size t) e) refl
     go false h = rw (← q, h)
 
 module _ (v : Verdict) (e : ℕ) (t : Tree) (nodes pool : List ℕ) (node_room : length nodes ≡ most_nodes * node_words)
-    (pool_room : length pool ≡ most_pool) {nodes' pool' : List ℕ} (r : Step)
+    (pool_room : length pool ≡ most_pool) {nodes' pool' : List ℕ} (r : Result Step Refusal)
     (b : StepBuilt v e t nodes pool r nodes' pool') where
   -- what the build refuses is refused
-  refusal_said : {why : Refusal} → r ≡ Refused why → step_verdict v e t ≡ verdict.Refused why
+  refusal_said : {why : Refusal} → r ≡ Err why → step_verdict v e t ≡ verdict.Refused why
   unfolding step_verdict
   refusal_said {why} q = rw (node_room, pool_room) at (refused_by (said_by b.0) {why = why} (ap step_paper q))
 
@@ -75,7 +75,7 @@ module _ (v : Verdict) (e : ℕ) (t : Tree) (nodes pool : List ℕ) (node_room :
 
     -- what is written of them, where they can be, is the text of the step
     words_written :
-        (n : ℕ) {before after : List ℕ} {a : Written} →
+        (n : ℕ) {before after : List ℕ} {a : Result ℕ Refusal} →
         (step_verdict v e t ≡ verdict.Fine → Spelling n (laid (up_to e t 0) 0 0) (pooled (up_to e t 0))) →
         FileWritten (word_by w) n (take (k * node_words) nodes') (take p pool') before a after →
         StepWritten v n e t before a after
@@ -86,23 +86,23 @@ module _ (v : Verdict) (e : ℕ) (t : Tree) (nodes pool : List ℕ) (node_room :
         writes_after said_fine (rw same (rw (then_fine _ there) at (rw (nodes_stand.0, pool_stands.0) at h)))
 
   -- what a step left is within the lent words
-  pub step_within : StepWithin r nodes' pool'
-  step_within = go r refl
+  pub step_within : {s : Result Step Refusal} → r ≡ s → StepWithin s nodes' pool'
+  step_within {s} q = go s q
     where
-      go : (s : Step) → r ≡ s → StepWithin s nodes' pool'
-      go (Refused why) q = tt
+      go : (s : Result Step Refusal) → r ≡ s → StepWithin s nodes' pool'
+      go (Err why) q = tt
       go (Whole k p) q = ((nodes_stand (ap step_paper q)).1, (pool_stands (ap step_paper q)).1)
       go (Stopped k p) q = ((nodes_stand (ap step_paper q)).1, (pool_stands (ap step_paper q)).1)
 
   -- what is written of a step is its text, where that of a fine step can be written
   pub step_written :
-      (n : ℕ) {before after : List ℕ} {a : Written} →
+      (n : ℕ) {before after : List ℕ} {a : Result ℕ Refusal} {s : Result Step Refusal} → r ≡ s →
       (step_verdict v e t ≡ verdict.Fine → Spelling n (laid (up_to e t 0) 0 0) (pooled (up_to e t 0))) →
-      StepSaid n r nodes' pool' before a after → StepWritten v n e t before a after
+      StepSaid n s nodes' pool' before a after → StepWritten v n e t before a after
   unfolding word_by
-  step_written n {before} {after} {a} spelling = go r refl
+  step_written n {before} {after} {a} {s} q spelling = go s q
     where
-      go : (s : Step) → r ≡ s → StepSaid n s nodes' pool' before a after → StepWritten v n e t before a after
-      go (Refused why) q h = writes_refused (then_refused _ (refusal_said q)) (ap paper h.0) h.1
+      go : (s : Result Step Refusal) → r ≡ s → StepSaid n s nodes' pool' before a after → StepWritten v n e t before a after
+      go (Err why) q h = writes_refused (then_refused _ (refusal_said q)) (ap paper h.0) h.1
       go (Whole k p) q h = words_written (ap step_paper q) n spelling h
       go (Stopped k p) q h = words_written (ap step_paper q) n spelling h

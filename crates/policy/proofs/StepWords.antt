@@ -1,18 +1,17 @@
 -- What a step left, by its answer: the words are within those that were lent, and their text is the step's.
+use Rattle.std.specs.Prelude.{Err, Result}
+use Rattle.builder.specs.declared.step.Step.{Step}
+use Rattle.builder.specs.Said.{Stopped, Whole}
 use Prim.Native.Nat.{ℕ, ◌*◌}
 use mathlib.Core.Path.{◌≡◌, refl}
 use mathlib.Core.List.{List}
 use lib.ListN.{take}
 use Rattle.refusals.specs.declared.Refusal.{Refusal}
 use Rattle.trees.specs.Words.{node_words}
-use Rattle.builder.specs.declared.step.Step.{Step}
-use Rattle.builder.specs.declared.step.Step.TheVariants.{Refused, Whole, Stopped}
-use Rattle.text.specs.declared.put.Written.{Written}
-use Rattle.text.specs.declared.put.Written.TheVariants as written
 use Rattle.tree_file.specs.Writing.{TreeWritten, PartWritten}
 use Rattle.policy.specs.Steps.{Within, StepWithin, StepSaid}
 
-module _ {s : Step} (nodes pool : List ℕ) where
+module _ {s : Result Step Refusal} (nodes pool : List ℕ) where
   -- the words of a tree that is whole
   pub whole_within : {k p : ℕ} → s ≡ Whole k p → StepWithin s nodes pool → Within k p nodes pool
   whole_within e w = rw e at w
@@ -23,10 +22,10 @@ module _ {s : Step} (nodes pool : List ℕ) where
 
   -- a refusal writes nothing
   pub refused_said :
-      (n : ℕ) (out : List ℕ) {why : Refusal} → s ≡ Refused why → StepSaid n s nodes pool out (written.Refused why) out
+      (n : ℕ) (out : List ℕ) {why : Refusal} → s ≡ Err why → StepSaid n s nodes pool out (Err why) out
   refused_said n out e = rw e (refl, refl)
 
-  module _ (n : ℕ) {before after : List ℕ} {a : Written} {k p : ℕ} where
+  module _ (n : ℕ) {before after : List ℕ} {a : Result ℕ Refusal} {k p : ℕ} where
     -- the text of a tree that is whole is a tree's file
     pub whole_said :
         s ≡ Whole k p → TreeWritten n (take (k * node_words) nodes) (take p pool) before a after →

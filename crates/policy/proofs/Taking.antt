@@ -1,4 +1,8 @@
 -- The tree of the tree file is taken: what the reader of trees says, in words instead of nodes.
+use Rattle.policy.specs.declared.tree.Words.{Words}
+use Rattle.policy.specs.Said.{TakenWords}
+use Rattle.tree_file.specs.declared.read.Counts.{Counts}
+use Rattle.std.specs.Prelude.{Err, Result}
 use Prim.Native.Nat.{ℕ, ◌*◌, ◌≤◌}
 use native.Mathlib.Omega.{arith}
 use mathlib.Core.Path.{◌≡◌, refl, ap, subst}
@@ -7,7 +11,7 @@ use mathlib.Core.Option.{Option, none, some}
 use lib.ListN.{length}
 use Rattle.refusals.specs.declared.Refusal.{Refusal}
 use Rattle.refusals.specs.declared.Refusal.TheVariants.{FileNotRead}
-use Rattle.refusals.specs.declared.Verdict.TheVariants as verdict
+use Rattle.refusals.specs.Verdict as verdict
 use Rattle.refusals.specs.Paper.{success}
 use Rattle.refusals.proofs.Order.{refused_not_fine, then_fine_iff, room_fine_iff}
 use Rattle.refusals.proofs.Promises.{refused_by, fine_by, said_by, writes_refused}
@@ -16,14 +20,10 @@ use Rattle.trees.specs.Words.{node_words, node_count}
 use Rattle.trees.proofs.Sizes.{sizes_fine_iff}
 use Rattle.text.specs.Words.{tree_word}
 use Rattle.text.specs.Text.{Reading, good, refused}
-use Rattle.tree_file.specs.declared.read.Read.{Read}
-use Rattle.tree_file.specs.declared.read.Read.TheVariants as read
 use Rattle.tree_file.specs.TreeText.{Tree, tree, file_in, tree_in}
-use Rattle.tree_file.specs.Reading.{room_for, read_verdict, values_in, nodes_in, pool_in, TreeRead}
+use Rattle.tree_file.specs.Reading.{room_for, read_verdict, values_in, nodes_in, pool_in, TreeRead, HoldsTree}
 use Rattle.tree_file.specs.Reading as reader
 use Rattle.tree_file.proofs.RoundTrips.{spelling_of_read}
-use Rattle.policy.specs.declared.tree.Taken.{Taken}
-use Rattle.policy.specs.declared.tree.Taken.TheVariants.{Refused, Words}
 use Rattle.policy.specs.Files.{tree_of}
 use Rattle.policy.specs.TakeTree.{TreeTaken}
 
@@ -45,17 +45,18 @@ module _ (word s : List ℕ) (a b : ℕ) where
       let total : p ≡ length es = cc in
       (omega (arith, count, whole), total, omega (arith, count, room))
 
-module _ (s : List ℕ) {nodes pool nodes' pool' : List ℕ} {r : Read} (t : TreeRead s nodes pool r nodes' pool') where
+module _ (s : List ℕ) {nodes pool nodes' pool' : List ℕ} {r : Result Counts Refusal}
+    (t : TreeRead s nodes pool r nodes' pool') where
   -- its refusal
   pub tree_refused :
-      {why : Refusal} → r ≡ read.Refused why → TreeTaken (some s) nodes pool (Refused why) nodes' pool'
+      {why : Refusal} → r ≡ Err why → TreeTaken (some s) nodes pool (Err why) nodes' pool'
   unfolding tree_of
   tree_refused {why} e =
       let v : read_verdict (tree_in s) (length nodes) (length pool) ≡ verdict.Refused why =
       refused_by (said_by t.0) (ap reader.paper e) in
       (writes_refused v refl (left_found t.0 v), writes_refused v refl (left_found t.1 v))
 
-  module _ {k m p : ℕ} (e : r ≡ read.Tree k m p) where
+  module _ {k m p : ℕ} (e : r ≡ HoldsTree k m p) where
     says :
         (read_verdict (tree_in s) (length nodes) (length pool) ≡ verdict.Fine) × (k ∷ m ∷ p ∷ [] ≡ values_in (tree_in s))
     says = fine_by (said_by t.0) (ap reader.paper e)
@@ -66,7 +67,7 @@ module _ (s : List ℕ) {nodes pool nodes' pool' : List ℕ} {r : Read} (t : Tre
     sizes = tree_sizes tree_word s (length nodes) (length pool) (tree_in s) refl says.0 says.1
 
     -- its nodes, three words each, and its pool
-    pub tree_found : TreeTaken (some s) nodes pool (Words (m * node_words) p) nodes' pool'
+    pub tree_found : TreeTaken (some s) nodes pool (TakenWords (m * node_words) p) nodes' pool'
     unfolding tree_of
     tree_found =
         let words : success (m * node_words ∷ p ∷ []) ≡
@@ -80,14 +81,14 @@ module _ (s : List ℕ) {nodes pool nodes' pool' : List ℕ} {r : Read} (t : Tre
     tree_within = sizes.2
 
 -- a file that was not read
-pub tree_not_read : (nodes pool : List ℕ) → TreeTaken none nodes pool (Refused FileNotRead) nodes pool
+pub tree_not_read : (nodes pool : List ℕ) → TreeTaken none nodes pool (Err FileNotRead) nodes pool
 unfolding tree_of
 tree_not_read nodes pool =
     (writes_refused {why = FileNotRead} refl refl refl, writes_refused {why = FileNotRead} refl refl refl)
 
 -- what is taken of a file goes by its text alone
 pub tree_by :
-    (f g : Option (List ℕ)) {nodes pool nodes' pool' : List ℕ} {r : Taken} → g ≡ f →
+    (f g : Option (List ℕ)) {nodes pool nodes' pool' : List ℕ} {r : Result Words Refusal} → g ≡ f →
     TreeTaken g nodes pool r nodes' pool' → TreeTaken f nodes pool r nodes' pool'
 tree_by f g {nodes} {pool} {nodes'} {pool'} {r} e t =
     subst (λ (x : Option (List ℕ)). TreeTaken x nodes pool r nodes' pool') e t

@@ -4,14 +4,13 @@
 --   tree_of f           the tree that the tree file f holds, in the same way
 --   part_of f           the part that the part file f holds
 --   most_file          the most bytes of a file that the programs read
+use Rattle.policy.specs.Said.{Bytes, NotRead, File}
 use Rattle.std.specs.Prelude.{ℕ, List, take}
 use Rattle.std.proofs.Math.Option.{Option, none, some}
 use Rattle.refusals.specs.declared.Refusal.TheVariants.{FileNotRead}
 use Rattle.text.specs.Text.{Reading, refused}
 use Rattle.rule_file.specs.RuleText.{rules_in}
 use Rattle.tree_file.specs.TreeText.{Tree, tree_in, part_in}
-use Rattle.policy.specs.declared.file.File.{File}
-use Rattle.policy.specs.declared.file.File.TheVariants.{NotRead, Bytes}
 
 abbrev pub text_in : File → List ℕ → Option (List ℕ)
 text_in NotRead buffer = none

@@ -1,4 +1,5 @@
 -- What the files say, who serves, what the programs write, and what a list is compiled into, at once and in steps.
+pub mod Said
 pub mod Files
 pub mod TakeList
 pub mod TakeTree

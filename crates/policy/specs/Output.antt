@@ -8,8 +8,8 @@
 --   TreeServes rs f      the tree file f holds a tree that may serve the list rs
 use Rattle.std.specs.Prelude.{ℕ, false, ◌≡◌, List, [], ◌++◌, take}
 use Rattle.std.proofs.Math.Option.{Option}
-use Rattle.refusals.specs.declared.Verdict.{Verdict}
-use Rattle.refusals.specs.declared.Verdict.TheVariants.{Fine, Refused}
+use Rattle.refusals.specs.Verdict.{Verdict}
+use Rattle.refusals.specs.Verdict.{Fine, Refused}
 use Rattle.refusals.specs.Order.{◌then◌}
 use Rattle.tree_check.specs.TreeCheck.{check_verdict}
 use Rattle.tree_check.specs.Serves.{Serves}

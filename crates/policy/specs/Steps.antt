@@ -9,8 +9,11 @@
 --                          tree that is grown from it
 --   StepWithin s nodes pool    what the step s left is within the lent words
 --   StepSaid n s nodes pool    its text: of a tree's file, or of a part's; or its refusal
-use Rattle.std.specs.Prelude.{ℕ, ◌+◌, ◌*◌, ◌≤◌, cond, ◌≡◌, List, [], ◌∷◌, length, take, leb}
-use Rattle.refusals.specs.declared.Verdict.{Verdict}
+use Rattle.refusals.specs.declared.Refusal.{Refusal}
+use Rattle.builder.specs.declared.step.Step.{Step}
+use Rattle.builder.specs.Said.{Stopped, Whole}
+use Rattle.std.specs.Prelude.{ℕ, ◌+◌, ◌*◌, ◌≤◌, cond, ◌≡◌, List, [], ◌∷◌, length, take, leb, Err, Result}
+use Rattle.refusals.specs.Verdict.{Verdict}
 use Rattle.refusals.specs.Order.{room_verdict, ◌then◌}
 use Rattle.refusals.specs.Promises.{Writes}
 use Rattle.rules.specs.Words.{rule_count}
@@ -23,11 +26,7 @@ use Rattle.built.specs.Layout.{size, pooled, laid}
 use Rattle.built.specs.GrownOn.{tree_on}
 use Rattle.built.specs.Stops.{up_to}
 use Rattle.built.specs.BuiltTree.{built_tree, tree_fits}
-use Rattle.builder.specs.declared.step.Step.{Step}
-use Rattle.builder.specs.declared.step.Step.TheVariants.{Refused, Whole, Stopped}
 use Rattle.builder.specs.Build.{at_least_one}
-use Rattle.text.specs.declared.put.Written.{Written}
-use Rattle.text.specs.declared.put.Written.TheVariants as written
 use Rattle.text.specs.Words.{tree_word, part_word}
 use Rattle.text.specs.Said.{paper}
 use Rattle.tree_file.specs.TreeLines.{file_text}
@@ -42,7 +41,7 @@ step_text n e t = let p = up_to e t 0 in file_text (step_word e t) n (laid p 0 0
 unfoldable pub step_verdict : Verdict → ℕ → Tree → Verdict
 step_verdict v e t = v then tree_fits (up_to e t 0) (most_nodes * node_words) most_pool
 
-abbrev pub StepWritten : Verdict → ℕ → ℕ → Tree → List ℕ → Written → List ℕ → Type 0
+abbrev pub StepWritten : Verdict → ℕ → ℕ → Tree → List ℕ → Result ℕ Refusal → List ℕ → Type 0
 StepWritten v n e t before r after =
     let text = step_text n e t in
     Writes paper (step_verdict v e t then room_verdict (length text) (length before)) (length text ∷ []) text before r
@@ -54,7 +53,7 @@ some_verdict rs most = step_verdict (list_verdict rs) (at_least_one most) (built
 abbrev pub some_text : List ℕ → ℕ → List ℕ
 some_text rs most = step_text (rule_count rs) (at_least_one most) (built_tree rs)
 
-abbrev pub SomeWritten : List ℕ → ℕ → List ℕ → Written → List ℕ → Type 0
+abbrev pub SomeWritten : List ℕ → ℕ → List ℕ → Result ℕ Refusal → List ℕ → Type 0
 SomeWritten rs most = StepWritten (list_verdict rs) (rule_count rs) (at_least_one most) (built_tree rs)
 
 abbrev pub on_verdict : List ℕ → ℕ → List ℕ → List ℕ → ℕ → Verdict
@@ -65,7 +64,7 @@ abbrev pub on_text : List ℕ → List ℕ → List ℕ → ℕ → List ℕ
 on_text rs part kept most =
     step_text (rule_count rs) (node_count part + at_least_one most) (tree_on (boxes_of rs) part kept)
 
-abbrev pub OnWritten : List ℕ → ℕ → List ℕ → List ℕ → ℕ → List ℕ → Written → List ℕ → Type 0
+abbrev pub OnWritten : List ℕ → ℕ → List ℕ → List ℕ → ℕ → List ℕ → Result ℕ Refusal → List ℕ → Type 0
 OnWritten rs n part kept most =
     StepWritten (so_far_verdict rs n part kept) (rule_count rs) (node_count part + at_least_one most)
     (tree_on (boxes_of rs) part kept)
@@ -73,13 +72,13 @@ OnWritten rs n part kept most =
 abbrev pub Within : ℕ → ℕ → List ℕ → List ℕ → Type 0
 Within k p nodes pool = (k * node_words ≤ length nodes) × (p ≤ length pool)
 
-abbrev pub StepWithin : Step → List ℕ → List ℕ → Type 0
-StepWithin (Refused why) nodes pool = Unit {0}
+abbrev pub StepWithin : Result Step Refusal → List ℕ → List ℕ → Type 0
+StepWithin (Err why) nodes pool = Unit {0}
 StepWithin (Whole k p) nodes pool = Within k p nodes pool
 StepWithin (Stopped k p) nodes pool = Within k p nodes pool
 
-abbrev pub StepSaid : ℕ → Step → List ℕ → List ℕ → List ℕ → Written → List ℕ → Type 0
-StepSaid n (Refused why) nodes pool before r after = (r ≡ written.Refused why) × (after ≡ before)
+abbrev pub StepSaid : ℕ → Result Step Refusal → List ℕ → List ℕ → List ℕ → Result ℕ Refusal → List ℕ → Type 0
+StepSaid n (Err why) nodes pool before r after = (r ≡ Err why) × (after ≡ before)
 StepSaid n (Whole k p) nodes pool before r after =
     TreeWritten n (take (k * node_words) nodes) (take p pool) before r after
 StepSaid n (Stopped k p) nodes pool before r after =

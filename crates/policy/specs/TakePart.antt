@@ -6,42 +6,42 @@
 --   begun_by v k n p    by the verdict v on a part: its refusal; or these numbers
 --   goes_on t rs nodes pool   by what was taken of the part file: its refusal; or what the part check says, for the
 --                       list rs, of the words in front of nodes and pool
-use Rattle.std.specs.Prelude.{ℕ, List, [], ◌∷◌, length, take}
+use Rattle.refusals.specs.declared.Refusal.{Refusal}
+use Rattle.policy.specs.declared.part.Begun.{Begun}
+use Rattle.policy.specs.Said.{BegunWords}
+use Rattle.std.specs.Prelude.{ℕ, List, [], ◌∷◌, length, take, Err, Result, Ok}
 use Rattle.std.proofs.Math.Option.{Option}
-use Rattle.refusals.specs.declared.Verdict.{Verdict}
-use Rattle.refusals.specs.declared.Verdict.TheVariants as verdict
-use Rattle.refusals.specs.Paper.{Paper, success, on_paper}
+use Rattle.refusals.specs.Verdict.{Verdict}
+use Rattle.refusals.specs.Verdict as verdict
+use Rattle.refusals.specs.Paper.{Paper, said}
 use Rattle.refusals.specs.Promises.{Writes}
 use Rattle.tree_check.specs.PartCheck.{so_far_verdict}
 use Rattle.text.specs.Text.{Reading, good, refused}
 use Rattle.tree_file.specs.TreeText.{Tree, tree}
 use Rattle.tree_file.specs.Reading.{read_verdict, nodes_in, pool_in}
-use Rattle.policy.specs.declared.part.Begun.{Begun}
-use Rattle.policy.specs.declared.part.Begun.TheVariants.{Refused, Words}
 use Rattle.policy.specs.Files.{part_of}
 
-abbrev pub paper : Begun → Paper
-paper (Refused why) = on_paper why
-paper (Words rules nodes pool) = success (rules ∷ nodes ∷ pool ∷ [])
+abbrev pub paper : Result Begun Refusal → Paper
+paper = said (λ part. part.rules ∷ part.nodes ∷ part.pool ∷ [])
 
 abbrev pub made_for : Reading Tree → ℕ
 made_for (refused why) = 0
 made_for (good (tree n nodes pool)) = n
 
-abbrev pub PartTaken : Option (List ℕ) → List ℕ → List ℕ → Begun → List ℕ → List ℕ → Type 0
+abbrev pub PartTaken : Option (List ℕ) → List ℕ → List ℕ → Result Begun Refusal → List ℕ → List ℕ → Type 0
 PartTaken f nodes pool r nodes' pool' =
     let a = part_of f in
     let v = read_verdict a (length nodes) (length pool) in
     let values = made_for a ∷ length (nodes_in a) ∷ length (pool_in a) ∷ [] in
     Writes paper v values (nodes_in a) nodes r nodes' × Writes paper v values (pool_in a) pool r pool'
 
-unfoldable pub begun_by : Verdict → ℕ → ℕ → ℕ → Begun
-begun_by verdict.Fine k n p = Words k n p
-begun_by (verdict.Refused why) k n p = Refused why
+unfoldable pub begun_by : Verdict → ℕ → ℕ → ℕ → Result Begun Refusal
+begun_by verdict.Fine k n p = BegunWords k n p
+begun_by (verdict.Refused why) k n p = Err why
 
-unfoldable pub goes_on : Begun → List ℕ → List ℕ → List ℕ → Begun
-goes_on (Refused why) rs nodes pool = Refused why
-goes_on (Words k n p) rs nodes pool =
-    let part = take n nodes in
-    let kept = take p pool in
-    begun_by (so_far_verdict rs k part kept) k (length part) (length kept)
+unfoldable pub goes_on : Result Begun Refusal → List ℕ → List ℕ → List ℕ → Result Begun Refusal
+goes_on (Err why) rs nodes pool = Err why
+goes_on (Ok begun) rs nodes pool =
+    let part = take begun.nodes nodes in
+    let kept = take begun.pool pool in
+    begun_by (so_far_verdict rs begun.rules part kept) begun.rules (length part) (length kept)

@@ -4,12 +4,12 @@
 --                       the refusal to be written
 --   serving_of t rs nodes pool   by what was taken of the tree file: its refusal; or what the tree check says, for the
 --                       list rs, of the words in front of nodes and pool
-use Rattle.std.specs.Prelude.{ℕ, true, false, List, [], length, take}
-use Rattle.refusals.specs.declared.Verdict.{Verdict}
-use Rattle.refusals.specs.declared.Verdict.TheVariants.{Fine, Refused}
+use Rattle.refusals.specs.declared.Refusal.{Refusal}
+use Rattle.policy.specs.declared.tree.Words.{Words}
+use Rattle.std.specs.Prelude.{ℕ, true, false, List, [], length, take, Err, Result, Ok}
+use Rattle.refusals.specs.Verdict.{Verdict}
+use Rattle.refusals.specs.Verdict.{Fine, Refused}
 use Rattle.tree_check.specs.TreeCheck.{check_verdict}
-use Rattle.policy.specs.declared.tree.Taken.{Taken}
-use Rattle.policy.specs.declared.tree.Taken.TheVariants as taken
 use Rattle.policy.specs.declared.serving.Serving.{Serving}
 
 abbrev pub by_tree : ℕ → ℕ → Serving
@@ -19,7 +19,9 @@ unfoldable pub serving : Verdict → List ℕ → List ℕ → Serving
 serving Fine ns es = by_tree (length ns) (length es)
 serving (Refused why) ns es = record { refused = Refused why; accepted = false; nodes = 0; pool = 0 }
 
-unfoldable pub serving_of : Taken → List ℕ → List ℕ → List ℕ → Serving
-serving_of (taken.Refused why) rs nodes pool = serving (Refused why) [] []
-serving_of (taken.Words n p) rs nodes pool =
-    serving (check_verdict rs (take n nodes) (take p pool)) (take n nodes) (take p pool)
+unfoldable pub serving_of : Result Words Refusal → List ℕ → List ℕ → List ℕ → Serving
+serving_of (Err why) rs nodes pool = serving (Refused why) [] []
+serving_of (Ok taken) rs nodes pool =
+    let tree = take taken.nodes nodes in
+    let kept = take taken.pool pool in
+    serving (check_verdict rs tree kept) tree kept

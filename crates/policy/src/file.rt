@@ -1,19 +1,24 @@
-// What a file gave.
-ghost use Rattle.std.specs.Prelude.{min, ◌≡◌};
+// What a file gave: how many bytes, which stand in front of a buffer; or nothing, where it was not read to its end or
+// is too long.
+ghost use Rattle.std.specs.Prelude.{◌≡◌, MatchResult};
+ghost use Rattle.std.proofs.Math.Option.{none, some};
+ghost use Rattle.refusals.specs.declared.Refusal.TheVariants.{FileNotRead};
+ghost use Rattle.policy.specs.Files.{text_in};
+
+use refusals::Refusal;
 
 // The most bytes of a file that the programs read. No tree that a list is compiled into has a longer text.
 pub const MOST_FILE: usize = 65536;
 
-// It was not read to its end, or is too long; or it has `count` bytes, which stand in front of a buffer.
-#[derive(Clone, Copy)]
-pub enum File {
-    NotRead,
-    Bytes { count: usize },
-}
-
-// How many of the first `count` are there, of `most` in all.
-pub(crate) fn within(count: usize, most: usize) -> usize
-    ensures { result ≡ min count most }
+// The bytes that were read of a file.
+pub(crate) fn text_of(file: Option<usize>, buffer: &[u8]) -> Result<&[u8], Refusal>
+    ensures { MatchResult result
+        (λ text. text_in file buffer.now ≡ some text.now)
+        (λ why. (why ≡ FileNotRead) × (text_in file buffer.now ≡ none)) }
 {
-    if count < most { count } else { most }
+    let Some(count) = file else {
+        return Err(Refusal::FileNotRead);
+    };
+    let n = count.min(buffer.len());
+    Ok(&buffer[..n])
 }

@@ -11,7 +11,7 @@
 //   part::goes_on             whether a compile goes on from it: as the file was, then 1, 2, 11, 5, 6, 7, 8
 //   step::some_text           the text of the first nodes of the tree: 1, 2, 11, 4
 //   step::on_text             the text of a part and some nodes more: 1, 2, 11, 5, 6, 7, 8, 4
-//   file::File                what a file gave
+//   file::MOST_FILE           the most bytes of a file that the programs read
 // Each takes any words and bytes. Rests on all libraries but exports.
 #![tactic(auto)]
 

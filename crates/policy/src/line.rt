@@ -5,16 +5,15 @@ ghost use Rattle.console.specs.Lines.{most_refused};
 ghost use Rattle.policy.specs.Output.{verdict_line};
 
 use console::say::refused_line;
-use refusals::Verdict;
-use text::put::Written;
+use refusals::Refusal;
 
 // The line of a refusal, from the front of `out` on; nothing where the verdict is fine. The rest of `out` is as found.
-pub fn verdict_line(verdict: Verdict, out: &mut [u8]) -> Written
+pub fn verdict_line(verdict: Result<(), Refusal>, out: &mut [u8]) -> Result<usize, Refusal>
     ensures said { Said (verdict_line verdict) out.old result out.new }
     ensures short { length (verdict_line verdict) ≤ most_refused }
 {
     match verdict {
-        Verdict::Fine => Written::Bytes { bytes: 0 },
-        Verdict::Refused(why) => refused_line(why, out),
+        Ok(()) => Ok(0),
+        Err(why) => refused_line(why, out),
     }
 }

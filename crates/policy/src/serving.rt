@@ -1,19 +1,18 @@
 // Who serves: the tree, where the reader took it and the tree check accepts it for the list; else the list.
 ghost use Rattle.std.specs.Prelude.{◌≡◌, []};
-ghost use Rattle.refusals.specs.declared.Verdict.TheVariants as verdict;
+ghost use Rattle.refusals.specs.Verdict as verdict;
 ghost use Rattle.tree_check.specs.TreeCheck.{check_verdict};
 ghost use Rattle.policy.specs.WhoServes.{by_tree, serving, serving_of};
 
-use crate::file::within;
-use crate::tree::Taken;
-use refusals::{Refusal, Verdict};
-use tree_check::check::{TreeAnswer, tree_check};
+use crate::tree::Words;
+use refusals::Refusal;
+use tree_check::check::tree_check;
 
 // Why the tree was refused, or that it was not; whether the tree was accepted; and how many words its nodes and its
 // pool have, none where the list serves.
 #[derive(Clone, Copy)]
 pub struct Serving {
-    pub refused: Verdict,
+    pub refused: Result<(), Refusal>,
     pub accepted: bool,
     pub nodes: usize,
     pub pool: usize,
@@ -21,14 +20,19 @@ pub struct Serving {
 
 // Who serves the list `rules`, by what was taken of the tree file: the tree's words stand in front of `nodes` and
 // `pool`. Nothing is written.
-pub fn who_serves(taken: Taken, rules: &[u32], nodes: &[u32], pool: &[u32]) -> Serving
+pub fn who_serves(
+    taken: Result<Words, Refusal>,
+    rules: &[u32],
+    nodes: &[u32],
+    pool: &[u32],
+) -> Serving
     ensures { result ≡ serving_of taken rules.now nodes.now pool.now }
 {
     match taken {
-        Taken::Refused(why) => by_list(why),
-        Taken::Words { nodes: n, pool: p } => {
-            let a = within(n, nodes.len());
-            let b = within(p, pool.len());
+        Err(why) => by_list(why),
+        Ok(words) => {
+            let a = words.nodes.min(nodes.len());
+            let b = words.pool.min(pool.len());
             checked(rules, &nodes[..a], &pool[..b])
         }
     }
@@ -40,11 +44,8 @@ fn checked(rules: &[u32], nodes: &[u32], pool: &[u32]) -> Serving
         nodes.now pool.now }
 {
     match tree_check(rules, nodes, pool) {
-        TreeAnswer::Refused(why) => by_list(why),
-        TreeAnswer::Accepted {
-            cuts: _,
-            longest: _,
-        } => by_tree(nodes.len(), pool.len()),
+        Err(why) => by_list(why),
+        Ok(_) => by_tree(nodes.len(), pool.len()),
     }
 }
 
@@ -53,7 +54,7 @@ fn by_list(why: Refusal) -> Serving
     ensures { result ≡ serving (verdict.Refused why) [] [] }
 {
     Serving {
-        refused: Verdict::Refused(why),
+        refused: Err(why),
         accepted: false,
         nodes: 0,
         pool: 0,
@@ -65,7 +66,7 @@ fn by_tree(nodes: usize, pool: usize) -> Serving
     ensures { result ≡ by_tree nodes pool }
 {
     Serving {
-        refused: Verdict::Fine,
+        refused: Ok(()),
         accepted: true,
         nodes,
         pool,

@@ -1,48 +1,35 @@
 // The tree of the tree file.
-ghost use Rattle.std.proofs.Math.Option.{some};
 ghost use Rattle.policy.specs.Files.{text_in};
 ghost use Rattle.policy.specs.TakeTree.{TreeTaken};
 
-use crate::file::{File, within};
+use crate::file::text_of;
 use refusals::Refusal;
-use tree_file::read::{Read, tree_read};
+use tree_file::read::tree_read;
 use trees::words::NODE_WORDS;
 
+// How many words a tree's nodes have, and how many its pool.
 #[derive(Clone, Copy)]
-pub enum Taken {
-    Refused(Refusal),
-    Words { nodes: usize, pool: usize },
+pub struct Words {
+    pub nodes: usize,
+    pub pool: usize,
 }
 
 // The words of the tree, from the front of `nodes` and of `pool` on; the rest of both is as found. A refusal writes
 // nothing. Whether the tree may serve is for the check to say, so the text's own rule count is not looked at.
-pub fn take_tree(file: File, buffer: &[u8], nodes: &mut [u32], pool: &mut [u32]) -> Taken
+pub fn take_tree(
+    file: Option<usize>,
+    buffer: &[u8],
+    nodes: &mut [u32],
+    pool: &mut [u32],
+) -> Result<Words, Refusal>
     ensures { TreeTaken (text_in file buffer.now) nodes.old pool.old result
         nodes.new pool.new }
 {
-    match file {
-        File::NotRead => Taken::Refused(Refusal::FileNotRead),
-        File::Bytes { count } => {
-            let n = within(count, buffer.len());
-            tree_of(&buffer[..n], nodes, pool)
-        }
-    }
-}
-
-// The tree of a text. The reader says how many nodes there are; each has its words.
-fn tree_of(text: &[u8], nodes: &mut [u32], pool: &mut [u32]) -> Taken
-    ensures { TreeTaken (some text.now) nodes.old pool.old result
-        nodes.new pool.new }
-{
-    match tree_read(text, nodes, pool) {
-        Read::Refused(why) => Taken::Refused(why),
-        Read::Tree {
-            rules: _,
-            nodes: count,
-            pool: total,
-        } => Taken::Words {
-            nodes: count * NODE_WORDS,
-            pool: total,
-        },
-    }
+    let text = text_of(file, buffer)?;
+    // The reader says how many nodes there are; each has its words.
+    let read = tree_read(text, nodes, pool)?;
+    Ok(Words {
+        nodes: read.nodes * NODE_WORDS,
+        pool: read.pool,
+    })
 }

@@ -6,5 +6,6 @@ pub mod Splitting
 pub mod Only
 pub mod Unique
 pub mod Giving
+pub mod Passing
 pub mod Promises
 pub mod Rooms

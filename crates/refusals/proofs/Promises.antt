@@ -7,8 +7,8 @@ use lib.ListN.{length, drop}
 use Rattle.facts.specs.Lists.{written}
 use Rattle.facts.proofs.Setting.{written_behind}
 use Rattle.refusals.specs.declared.Refusal.{Refusal}
-use Rattle.refusals.specs.declared.Verdict.{Verdict}
-use Rattle.refusals.specs.declared.Verdict.TheVariants.{Fine, Refused}
+use Rattle.refusals.specs.Verdict.{Verdict}
+use Rattle.refusals.specs.Verdict.{Fine, Refused}
 use Rattle.refusals.specs.Paper.{Paper, refusal, success, on_paper}
 use Rattle.refusals.specs.Order.{◌then◌, ◌giving◌, leaving}
 use Rattle.refusals.specs.Promises.{Says, Writes, Apart, WritesOnly}

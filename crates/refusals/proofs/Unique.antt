@@ -1,7 +1,9 @@
 -- The paper tells refusals apart: number, place and extra give the variant and what it holds.
+use Rattle.refusals.specs.Promises.{Apart}
+use Rattle.std.specs.Prelude.{Ok, Err}
 use Prim.Native.Nat.{ℕ}
 use native.Mathlib.Omega.{arith}
-use mathlib.Core.Path.{◌≡◌, refl, sym, ◌∙◌}
+use mathlib.Core.Path.{◌≡◌, refl, sym, ◌∙◌, ap}
 use mathlib.Core.List.{List, [], ◌∷◌}
 use lib.ListN.{get_or}
 use Rattle.refusals.specs.declared.Refusal.{Refusal}
@@ -9,7 +11,7 @@ use Rattle.refusals.specs.declared.Refusal.TheVariants.{RuleWordsWrong, RuleNotG
 use Rattle.refusals.specs.declared.Refusal.TheVariants.{TreeWordsWrong, NodeWrong, LeafWrong, LeafLacksRule}
 use Rattle.refusals.specs.declared.Refusal.TheVariants.{LineWrong, TextStops, RuleHasTwin, FileNotRead}
 use Rattle.refusals.specs.Table.{number_of, place_of, extra_of}
-use Rattle.refusals.specs.Paper.{refusal, success, on_paper}
+use Rattle.refusals.specs.Paper.{refusal, success, on_paper, said, counted}
 
 -- the refusal with number n, place p and extra e: a line for each number from 0 on
 named : ℕ → ℕ → ℕ → Refusal
@@ -45,3 +47,15 @@ on_paper_unique r s e =
 -- a refusal is no success on paper
 pub refusal_not_success {ℓ} : {A : Type ℓ} {n p e : ℕ} {values : List ℕ} → refusal n p e ≡ success values → A
 refusal_not_success e = let z : ◌≡◌ {A = ℕ} 0 1 = cc in absurd (omega arith)
+
+-- where the values tell what was found apart, the paper tells the answers apart
+pub said_apart :
+    {T : Type 0} {values : T → List ℕ} → ((x y : T) → values x ≡ values y → x ≡ y) → Apart (said values)
+said_apart f (Err a) (Err b) e = ap Err (on_paper_unique a b e)
+said_apart f (Err a) (Ok y) e = refusal_not_success e
+said_apart f (Ok x) (Err b) e = refusal_not_success (sym e)
+said_apart {values = values} f (Ok x) (Ok y) e = let q : values x ≡ values y = cc in ap Ok (f x y q)
+
+-- so it does where one number is found
+pub counted_apart : Apart counted
+counted_apart = said_apart (λ n m e. cc)

@@ -14,7 +14,7 @@
 --   WritesBoth v w P paper size more    the same of a call that is lent two outputs, and of each of them
 use Rattle.std.specs.Prelude.{ℕ, ◌≡◌, List, get_or, drop}
 use Rattle.facts.specs.Lists.{written}
-use Rattle.refusals.specs.declared.Verdict.{Verdict}
+use Rattle.refusals.specs.Verdict.{Verdict}
 use Rattle.refusals.specs.Paper.{Paper, refusal, success}
 use Rattle.refusals.specs.Order.{◌giving◌, leaving}
 

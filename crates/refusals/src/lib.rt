@@ -1,6 +1,6 @@
-// Why a call was refused. `Refusal` has a variant for each refusal number of the scope, named after what is wrong, and
-// `Verdict` is what one check says. `number_of`, `place_of` and `extra_of` give the scope's numbers; they are the only
-// code that has them. Rests on facts.
+// Why a call was refused. `Refusal` has a variant for each refusal number of the scope, named after what is wrong; a call
+// that can be refused gives it as the error of a `Result`. `number_of`, `place_of` and `extra_of` give the scope's
+// numbers; they are the only code that has them. Rests on facts.
 #![tactic(auto)]
 
 ghost use Rattle.std.specs.Prelude.{◌≡◌};
@@ -20,12 +20,6 @@ pub enum Refusal {
     TextStops { lines: usize },
     RuleHasTwin { rule: usize, earlier: usize },
     FileNotRead,
-}
-
-#[derive(Clone, Copy)]
-pub enum Verdict {
-    Fine,
-    Refused(Refusal),
 }
 
 // The number of a refusal, as the scope's table has it.

@@ -4,7 +4,7 @@ use native.Mathlib.Omega.{arith}
 use mathlib.Core.List.{List, [], ◌∷◌, ◌++◌}
 use mathlib.Core.Path.{◌≡◌, refl, ap}
 use lib.ListN.{length, drop, length-append}
-use Rattle.refusals.specs.declared.Verdict.TheVariants.{Fine}
+use Rattle.refusals.specs.Verdict.{Fine}
 use Rattle.text.specs.Words.{rule_word, end_word, one_tab}
 use Rattle.text.specs.Line.{print_line, ended, EachUnder}
 use Rattle.text.specs.Text.{unlines}

@@ -1,7 +1,6 @@
 -- The laws of the rule file: words in parts, the kinds, one rule and its line, the texts of lists over a format and
 -- those of the kinds, the two round trips, a text that is cut, twins in a text, the length of a text, what the reader
 -- answers, and the calls after one another.
-pub mod Filled
 pub mod Parts
 pub mod Lists
 pub mod KindOf

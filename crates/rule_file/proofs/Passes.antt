@@ -1,5 +1,6 @@
 -- The pass over the lines of the rules, rule by rule. `ReadSoFar` is the invariant: the rules below i are read, their
 -- words are stored, and the rest decides.
+use Rattle.refusals.specs.Verdict.{Fine, Refused}
 use Prim.Native.Nat.{ℕ, ◌+◌, ◌*◌, ◌^◌, ◌≤◌, ◌<◌}
 use native.Mathlib.Omega.{arith}
 use mathlib.Core.Bool.{true}
@@ -13,7 +14,6 @@ use Rattle.refusals.specs.declared.Refusal.{Refusal}
 use Rattle.text.specs.declared.cursor.Cursor.{Cursor}
 use Rattle.text.specs.Text.{refused}
 use Rattle.text.specs.Onward.{Stands}
-use Rattle.text.specs.declared.end.Ending.TheVariants as end
 use Rattle.text.specs.EndLines.{end_line_at}
 use Rattle.text.proofs.EndLines.{EndComes, end_comes}
 use Rattle.rules.specs.Words.{rule_words, most_rules}
@@ -68,12 +68,12 @@ module _
 
     -- where it is refused, so is the text
     pub so_far_ends_not :
-        {why : Refusal} → end.Refused why ≡ end_line_at s c true (n + 1) → rest_from k n s first ≡ refused why
+        {why : Refusal} → Refused why ≡ end_line_at s c true (n + 1) → rest_from k n s first ≡ refused why
     so_far_ends_not q = subst (EndComes (rest_from k n s first) g.words) (sym q) last_comes
 
     -- where the text is over, all rules are stored
     pub so_far_ends :
-        {j : Kind} → j ≡ k → n ≤ most_rules → end.Over ≡ end_line_at s c true (n + 1) →
+        {j : Kind} → j ≡ k → n ≤ most_rules → Fine ≡ end_line_at s c true (n + 1) →
         RulesStored k (rest_from k n s first) old new n j
     so_far_ends same few q =
         record {

@@ -1,12 +1,12 @@
 -- One rule: the test that the numbers of its line pass, and how many numbers and words there are, and how large.
 use Prim.Native.Nat.{ℕ, ◌^◌, ◌<◌}
 use native.Mathlib.Omega.{arith}
-use mathlib.Core.Bool.{Bool, true, false, ◌&&◌}
+use mathlib.Core.Bool.{Bool, true, ◌&&◌}
 use mathlib.Core.List.{List, [], ◌∷◌, ◌++◌}
 use mathlib.Core.Path.{◌≡◌, refl}
 use lib.ListN.{length, get_or}
 use lib.Dec.{eqb}
-use borrow.Author.Tests.{eqb-true, eq-eqb, ne_eqb}
+use borrow.Author.Tests.{eqb-true, eq-eqb}
 use Rattle.facts.proofs.Bools.{both, join}
 use Rattle.text.specs.Line.{EachUnder}
 use Rattle.text.specs.Addresses.{octets_of}
@@ -37,29 +37,6 @@ tested i v h =
 pub passes : (i : ℕ) (v : List ℕ) → Tested i v → rule_fits i v ≡ true
 unfolding rule_fits
 passes i v t = join (join (join (eq-eqb (get_or v 0 0) i t.number) t.source) t.destination) t.rule
-
--- ---- the tests, one by one
-
--- another number fails the test
-pub number_fails : (i : ℕ) (v : List ℕ) → (get_or v 0 0 ≡ i → ⊥) → false ≡ rule_fits i v
-unfolding rule_fits
-number_fails i v h = rw (ne_eqb (get_or v 0 0) i h)
-
-module _ (i : ℕ) (v : List ℕ) (n : get_or v 0 0 ≡ i) where
-  -- a source that is not of octets fails the test
-  pub source_fails : source_fits v ≡ false → false ≡ rule_fits i v
-  unfolding rule_fits
-  source_fails s = rw (eq-eqb (get_or v 0 0) i n, s)
-
-  -- a destination that is not of octets fails the test
-  pub destination_fails : source_fits v ≡ true → destination_fits v ≡ false → false ≡ rule_fits i v
-  unfolding rule_fits
-  destination_fails s d = rw (eq-eqb (get_or v 0 0) i n, s, d)
-
-  -- the number and the octets being right, the rule decides
-  pub rule_decides : source_fits v ≡ true → destination_fits v ≡ true → rules.good (rule_of v) 0 ≡ rule_fits i v
-  unfolding rule_fits
-  rule_decides s d = rw (eq-eqb (get_or v 0 0) i n, s, d)
 
 -- ---- the words and the numbers
 

@@ -7,7 +7,7 @@ use mathlib.Core.Logic.{◌↔◌}
 use mathlib.Core.Path.{◌≡◌, refl, sym, ap, ◌∙◌}
 use lib.ListN.{length}
 use Rattle.refusals.specs.declared.Refusal.TheVariants.{TextStops}
-use Rattle.refusals.specs.declared.Verdict.TheVariants.{Fine}
+use Rattle.refusals.specs.Verdict.{Fine}
 use Rattle.text.specs.Line.{EachUnder, print_line}
 use Rattle.text.specs.Text.{good, refused, split, lines_of, unlines, run}
 use Rattle.rules.specs.Words.{rule_count, largest_action}

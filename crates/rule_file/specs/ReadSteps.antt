@@ -10,23 +10,19 @@
 --   PassRead k a old new r      r is what the reading a comes to
 --   WordsTaken k ws before r after  r is what comes of the words ws of rules: 11 for twins, then 4, else
 --                               they stand in front
-use Rattle.std.specs.Prelude.{ℕ, ◌+◌, ◌*◌, ◌≤◌, ◌<◌, List, [], ◌∷◌, ◌++◌, ◌≡◌, length}
+use Rattle.rule_file.specs.declared.read.Rules.{Rules}
+use Rattle.refusals.specs.declared.Refusal.{Refusal}
+use Rattle.std.specs.Prelude.{ℕ, ◌+◌, ◌*◌, ◌≤◌, ◌<◌, List, [], ◌∷◌, ◌++◌, ◌≡◌, length, Err, Ok, Result}
 use Rattle.std.proofs.Math.Option.{Option}
 use Rattle.std.proofs.lemmas.List.Edits.{sets}
 use Rattle.refusals.specs.Order.{room_verdict, ◌then◌}
 use Rattle.refusals.specs.Promises.{Writes}
 use Rattle.text.specs.declared.cursor.Cursor.{Cursor}
-use Rattle.text.specs.declared.cursor.Step.{Step}
-use Rattle.text.specs.declared.cursor.Step.TheVariants as said
 use Rattle.text.specs.Text.{Reading, good, refused}
 use Rattle.text.specs.Onward.{Stands}
 use Rattle.rules.specs.Words.{rule_words, most_rules, rule_count}
 use Rattle.rules.specs.Good.{list_verdict}
 use Rattle.rule_file.specs.declared.kind.Kind.{Kind}
-use Rattle.rule_file.specs.declared.read.Read.{Read}
-use Rattle.rule_file.specs.declared.read.Read.TheVariants.{Refused, Rules}
-use Rattle.rule_file.specs.declared.read.First.{First}
-use Rattle.rule_file.specs.declared.read.First.TheVariants as first
 use Rattle.rule_file.specs.ListText.{State, within, step, list_from, list_in}
 use Rattle.rule_file.specs.Kinds.{kind_number}
 use Rattle.rule_file.specs.RuleText.{format_of}
@@ -46,9 +42,9 @@ pub record RulesAnnounced (k : Kind) (s : List ℕ) (n : ℕ) (d : Cursor) : Typ
   pub stands : Stands s d
   pub few : n ≤ most_rules
 
-abbrev pub FirstLineRead : Kind → List ℕ → First → Type 0
-FirstLineRead k s (first.Refused why) = list_in (format_of k) s ≡ refused why
-FirstLineRead k s (first.Announces n d) = RulesAnnounced k s n d
+abbrev pub FirstLineRead : Kind → List ℕ → Result (ℕ × Cursor) Refusal → Type 0
+FirstLineRead k s (Err why) = list_in (format_of k) s ≡ refused why
+FirstLineRead k s (Ok (n, d)) = RulesAnnounced k s n d
 
 pub record RuleStored (k : Kind) (s : List ℕ) (c : Cursor) (i : ℕ) (old new : List ℕ) (d : Cursor) : Type 0 where
   pub words : List ℕ
@@ -59,10 +55,10 @@ pub record RuleStored (k : Kind) (s : List ℕ) (c : Cursor) (i : ℕ) (old new 
   pub rules_are : new ≡ sets old (i * rule_words) words
   pub stands : Stands s d
 
-abbrev pub RuleLineRead : Kind → List ℕ → Cursor → ℕ → List ℕ → List ℕ → Step → Type 0
-RuleLineRead k s c i old new (said.Refused why) =
+abbrev pub RuleLineRead : Kind → List ℕ → Cursor → ℕ → List ℕ → List ℕ → Result Cursor Refusal → Type 0
+RuleLineRead k s c i old new (Err why) =
     (n : ℕ) (ws : List ℕ) → i < n → rules_from k (within n i ws) s c ≡ refused why
-RuleLineRead k s c i old new (said.Next d) = RuleStored k s c i old new d
+RuleLineRead k s c i old new (Ok d) = RuleStored k s c i old new d
 
 pub record RulesStored (k : Kind) (a : Reading (List ℕ)) (old new : List ℕ) (n : ℕ) (j : Kind) : Type 0 where
   pub words : List ℕ
@@ -72,11 +68,11 @@ pub record RulesStored (k : Kind) (a : Reading (List ℕ)) (old new : List ℕ) 
   pub rules_are : new ≡ sets old 0 words
   pub kind : j ≡ k
 
-abbrev pub PassRead : Kind → Reading (List ℕ) → List ℕ → List ℕ → Read → Type 0
-PassRead k a old new (Refused why) = a ≡ refused why
-PassRead k a old new (Rules n j) = RulesStored k a old new n j
+abbrev pub PassRead : Kind → Reading (List ℕ) → List ℕ → List ℕ → Result Rules Refusal → Type 0
+PassRead k a old new (Err why) = a ≡ refused why
+PassRead k a old new (Ok read) = RulesStored k a old new read.rules read.kind
 
-abbrev pub WordsTaken : Kind → List ℕ → List ℕ → Read → List ℕ → Type 0
+abbrev pub WordsTaken : Kind → List ℕ → List ℕ → Result Rules Refusal → List ℕ → Type 0
 WordsTaken k ws before r after =
     Writes paper (list_verdict ws then room_verdict (length ws) (length before)) (rule_count ws ∷ kind_number k ∷ []) ws
     before r after

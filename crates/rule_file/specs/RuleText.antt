@@ -6,8 +6,8 @@
 --   rules_in s         what reading the text s comes to: the words of its rules; or 9, 10, then 11
 --   text_of k ws        the text of the list ws, in a file of kind k
 use Rattle.std.specs.Prelude.{ℕ, List, length, take}
-use Rattle.refusals.specs.declared.Verdict.{Verdict}
-use Rattle.refusals.specs.declared.Verdict.TheVariants.{Fine, Refused}
+use Rattle.refusals.specs.Verdict.{Verdict}
+use Rattle.refusals.specs.Verdict.{Fine, Refused}
 use Rattle.text.specs.Words.{rule_word}
 use Rattle.text.specs.Text.{Reading, good, refused}
 use Rattle.rules.specs.Words.{rule_words, most_rules, rule_count}

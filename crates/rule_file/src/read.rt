@@ -11,163 +11,131 @@ ghost use Rattle.rule_file.specs.ReadSteps.{rest_from, FirstLineRead, RuleLineRe
 ghost use Rattle.rule_file.specs.ReadSteps.{PassRead, WordsTaken};
 
 use crate::kind::{Kind, kind_of};
-use crate::record::{rule_fits, rule_of, store_rule};
+use crate::record::{rule_fits, rule_of};
 use lent::store_all;
-use refusals::{Refusal, Verdict};
+use refusals::Refusal;
 use rules::check::list_verdict;
 use rules::words::{MOST_RULES, RULE_WORDS};
-use text::cursor::{Cursor, Fields, Step, wrong};
-use text::end::{Ending, end_line};
-use text::words::{ACL, ACL_MARKS, ONE_TAB, RULE, RULE_MARKS, RULES};
+use text::cursor::{Cursor, Fields, wrong};
+use text::end::end_line;
+use text::words::{ONE_TAB, RULE};
 
+// What a text holds: how many rules, and its kind.
 #[derive(Clone, Copy)]
-pub enum Read {
-    Refused(Refusal),
-    Rules { rules: usize, kind: Kind },
-}
-
-// What the first line says: how many rules follow, and where they begin.
-#[derive(Clone, Copy)]
-pub enum First {
-    Refused(Refusal),
-    Announces(usize, Cursor),
+pub struct Rules {
+    pub rules: usize,
+    pub kind: Kind,
 }
 
 // The words of the rules that a text holds, from the front of `rules` on; the rest of `rules` is as found. The text is
 // judged whole before twins are looked for and the room is judged, so its words are read into words of their own. A
 // refusal writes nothing.
-pub fn rules_read(text: &[u8], rules: &mut [u32]) -> Read
+pub fn rules_read(text: &[u8], rules: &mut [u32]) -> Result<Rules, Refusal>
     ensures { RulesRead text.now rules.old result rules.new }
 {
     let mut words = [0u32; MOST_RULES * RULE_WORDS];
-    match read_lines(text, &mut words) {
-        Read::Refused(why) => Read::Refused(why),
-        Read::Rules { rules: count, kind } => {
-            let end = count * RULE_WORDS;
-            take_words(&words[..end], kind, rules)
-        }
-    }
+    let read = read_lines(text, &mut words)?;
+    let end = read.rules * RULE_WORDS;
+    take_words(&words[..end], read.kind, rules)
 }
 
 // Stores the words of the rules of a text, where no two are twins and there is room for all. Each rule is good, so the
 // list is refused for twins alone.
-fn take_words(words: &[u32], kind: Kind, rules: &mut [u32]) -> Read
+fn take_words(words: &[u32], kind: Kind, rules: &mut [u32]) -> Result<Rules, Refusal>
     ensures { WordsTaken kind words.now rules.old result rules.new }
 {
-    match list_verdict(words) {
-        Verdict::Refused(why) => Read::Refused(why),
-        Verdict::Fine => {
-            if rules.len() < words.len() {
-                return Read::Refused(Refusal::OutputShort {
-                    needed: words.len(),
-                    output: 0,
-                });
-            }
-            store_all(rules, 0, words);
-            Read::Rules {
-                rules: words.len() / RULE_WORDS,
-                kind,
-            }
-        }
+    list_verdict(words)?;
+    if rules.len() < words.len() {
+        return Err(Refusal::OutputShort {
+            needed: words.len(),
+            output: 0,
+        });
     }
+    store_all(rules, 0, words);
+    Ok(Rules {
+        rules: words.len() / RULE_WORDS,
+        kind,
+    })
 }
 
 // Judges the lines of a text, counts its rules, and stores their words as far as there is room.
-fn read_lines(text: &[u8], rules: &mut [u32]) -> Read
+fn read_lines(text: &[u8], rules: &mut [u32]) -> Result<Rules, Refusal>
     ensures { PassRead (kind_of text.now) (lines_in text.now) rules.old
         rules.new result }
 {
     let kind = kind_of(text);
-    match first_line(text, kind) {
-        First::Refused(why) => Read::Refused(why),
-        First::Announces(n, c) => rule_lines(text, kind, c, n, rules),
-    }
+    let (n, c) = first_line(text, kind)?;
+    rule_lines(text, kind, c, n, rules)
 }
 
-// The first line.
-fn first_line(text: &[u8], kind: Kind) -> First
+// What the first line says: how many rules follow, and where they begin.
+fn first_line(text: &[u8], kind: Kind) -> Result<(usize, Cursor), Refusal>
     ensures { FirstLineRead kind text.now result }
 {
-    let read = first_fields(text, kind);
-    let said = read.said;
-    let values = read.values;
-    match said {
-        Step::Refused(why) => First::Refused(why),
-        Step::Next(d) => {
-            let n = values[0] as usize;
-            if MOST_RULES < n {
-                return First::Refused(wrong(0));
-            }
-            First::Announces(n, d)
-        }
+    let read = first_fields(text, kind)?;
+    let n = read.values[0] as usize;
+    if MOST_RULES < n {
+        return Err(wrong(0));
     }
+    Ok((n, read.next))
 }
 
 // The first line as it stands: the word of its kind, and a number.
-fn first_fields(text: &[u8], kind: Kind) -> Fields
+fn first_fields(text: &[u8], kind: Kind) -> Result<Fields, Refusal>
     ensures { result ≡ line_at text.now (cursor_at 0 0) (list_word_of kind) one_tab }
 {
     let c = Cursor { at: 0, lines: 0 };
-    match kind {
-        Kind::Rules => c.line(text, &RULES, &ONE_TAB),
-        Kind::Acl => c.line(text, &ACL, &ONE_TAB),
-    }
+    c.line(text, kind.word(), &ONE_TAB)
 }
 
 // The lines of `n` rules, and the end line.
-fn rule_lines(text: &[u8], kind: Kind, c: Cursor, n: usize, rules: &mut [u32]) -> Read
+fn rule_lines(
+    text: &[u8],
+    kind: Kind,
+    c: Cursor,
+    n: usize,
+    rules: &mut [u32],
+) -> Result<Rules, Refusal>
     requires { Stands text.now c × (n ≤ most_rules) }
     ensures { PassRead kind (rest_from kind n text.now c) rules.old
         rules.new result }
 {
     let mut at = c.at;
     let mut lines = c.lines;
-    let mut i = 0;
-    while i < n {
+    for i in 0..n {
         let here = Cursor { at, lines };
-        match rule_line(text, kind, here, i, rules) {
-            Step::Refused(why) => return Read::Refused(why),
-            Step::Next(d) => {
-                at = d.at;
-                lines = d.lines;
-            }
-        }
-        i += 1;
+        let next = rule_line(text, kind, here, i, rules)?;
+        at = next.at;
+        lines = next.lines;
     }
-    match end_line(text, Cursor { at, lines }, true, n + 1) {
-        Ending::Refused(why) => Read::Refused(why),
-        Ending::Over => Read::Rules { rules: n, kind },
-    }
+    end_line(text, Cursor { at, lines }, true, n + 1)?;
+    Ok(Rules { rules: n, kind })
 }
 
 // The line of rule `i`, whose words are stored.
-fn rule_line(text: &[u8], kind: Kind, c: Cursor, i: usize, rules: &mut [u32]) -> Step
+fn rule_line(
+    text: &[u8],
+    kind: Kind,
+    c: Cursor,
+    i: usize,
+    rules: &mut [u32],
+) -> Result<Cursor, Refusal>
     requires { Stands text.now c × (i < most_rules) }
     ensures { RuleLineRead kind text.now c i rules.old rules.new result }
 {
-    let lines = c.lines;
-    let read = rule_fields(text, kind, c);
-    let said = read.said;
+    let read = rule_fields(text, kind, c)?;
     let values = read.values;
-    match said {
-        Step::Refused(why) => Step::Refused(why),
-        Step::Next(d) => {
-            if !rule_fits(i, values) {
-                return Step::Refused(wrong(lines));
-            }
-            store_rule(rules, i, rule_of(values));
-            Step::Next(d)
-        }
+    if !rule_fits(i, values) {
+        return Err(wrong(c.lines));
     }
+    store_all(rules, i * RULE_WORDS, &rule_of(values));
+    Ok(read.next)
 }
 
 // The line of a rule as it stands: a number behind each separator of its kind, so 0 for an action that it does not
 // have.
-fn rule_fields(text: &[u8], kind: Kind, c: Cursor) -> Fields
+fn rule_fields(text: &[u8], kind: Kind, c: Cursor) -> Result<Fields, Refusal>
     ensures { result ≡ line_at text.now c rule_word (marks_of kind) }
 {
-    match kind {
-        Kind::Rules => c.line(text, &RULE, &RULE_MARKS),
-        Kind::Acl => c.line(text, &RULE, &ACL_MARKS),
-    }
+    c.line(text, &RULE, kind.marks())
 }

@@ -1,17 +1,16 @@
 // One rule as the numbers of its line, and as the words of a list.
 ghost use Rattle.std.specs.Prelude.{◌+◌, ◌*◌, ◌≤◌, ◌<◌, ◌≡◌, length};
-ghost use Rattle.std.proofs.lemmas.List.Edits.{sets};
 ghost use Rattle.text.specs.Addresses.{octets_of};
 ghost use Rattle.rules.specs.Words.{rule_words, most_rules};
 ghost use Rattle.rule_file.specs.Records.{rule_of, rule_values, rule_fits, rule_at};
 
-use lent::store;
 use rules::check::rule_good;
 use rules::words::RULE_WORDS;
 use text::address::{address_of, octets_fit};
 use text::words::MOST_FIELDS;
 
 // Whether the numbers of a line are those of rule `i`: its number, octets, and a good rule.
+#[tactic(auto, unfolding(crate::specs::Records::rule_fits), using(crate::proofs::Lists::one_good))]
 pub(crate) fn rule_fits(i: usize, values: [u32; MOST_FIELDS]) -> bool
     ensures { result ≡ rule_fits i values }
 {
@@ -29,6 +28,7 @@ pub(crate) fn rule_fits(i: usize, values: [u32; MOST_FIELDS]) -> bool
 }
 
 // The words of the rule with these numbers.
+#[tactic(auto, unfolding(crate::specs::Records::rule_of))]
 pub(crate) fn rule_of(values: [u32; MOST_FIELDS]) -> [u32; RULE_WORDS]
     ensures { result ≡ rule_of values }
 {
@@ -49,33 +49,20 @@ pub(crate) fn rule_of(values: [u32; MOST_FIELDS]) -> [u32; RULE_WORDS]
     ]
 }
 
-// Stores the words of rule `i` into a list, as far as there is room.
-pub(crate) fn store_rule(rules: &mut [u32], i: usize, rule: [u32; RULE_WORDS])
-    requires { i < most_rules }
-    ensures { rules.new ≡ sets rules.old (i * rule_words) rule }
-{
-    let mut j = 0;
-    while j < RULE_WORDS {
-        store(rules, i * RULE_WORDS + j, rule[j]);
-        j += 1;
-    }
-}
-
 // The words of rule `i` of a list.
 pub(crate) fn rule_at(rules: &[u32], i: usize) -> [u32; RULE_WORDS]
     requires { i * rule_words + rule_words ≤ length rules.now }
     ensures { result ≡ rule_at rules.now i }
 {
     let mut rule = [0u32; RULE_WORDS];
-    let mut k = 0;
-    while k < RULE_WORDS {
-        rule[k] = rules[i * RULE_WORDS + k];
-        k += 1;
-    }
+    let start = i * RULE_WORDS;
+    let end = start + RULE_WORDS;
+    rule.copy_from_slice(&rules[start..end]);
     rule
 }
 
 // The numbers of the line of rule `i`, with these words.
+#[tactic(auto, unfolding(crate::specs::Records::rule_values))]
 pub(crate) fn values_of(i: usize, rule: [u32; RULE_WORDS]) -> [u32; MOST_FIELDS]
     requires { i < most_rules }
     ensures { result ≡ rule_values i rule }
@@ -92,10 +79,5 @@ pub(crate) fn values_of(i: usize, rule: [u32; RULE_WORDS]) -> [u32; MOST_FIELDS]
 fn octets_of(address: u32) -> [u32; 4]
     ensures { result ≡ octets_of address }
 {
-    [
-        address / 16777216,
-        address / 65536 % 256,
-        address / 256 % 256,
-        address % 256,
-    ]
+    address.to_be_bytes().map(u32::from)
 }

@@ -1,6 +1,6 @@
 // The writers of the rule file, one for each kind: the first line, a line for each rule, and the end line.
 ghost use Rattle.std.specs.Prelude.{◌+◌, ◌*◌, ◌≤◌, ◌<◌, ◌≡◌, length};
-ghost use Rattle.refusals.specs.declared.Verdict.TheVariants.{Fine};
+ghost use Rattle.refusals.specs.Verdict.{Fine};
 ghost use Rattle.rules.specs.Words.{rule_words, most_rules};
 ghost use Rattle.rules.specs.Good.{list_verdict_to};
 ghost use Rattle.text.specs.Line.{ended};
@@ -12,52 +12,48 @@ ghost use Rattle.rule_file.specs.Kinds.{most_action};
 ghost use Rattle.rule_file.specs.RuleText.{format_of, text_of};
 ghost use Rattle.rule_file.specs.Writing.{ListWritten, RulesWritten, AclWritten};
 
-use crate::kind::{Kind, most_action};
+use crate::kind::Kind;
 use crate::record::{rule_at, values_of};
-use refusals::{Refusal, Verdict};
+use refusals::Refusal;
 use rules::check::verdict_to;
 use rules::words::RULE_WORDS;
 use text::end::put_end;
-use text::put::{Written, put_line};
-use text::words::{ACL, ACL_MARKS, ONE_TAB, RULE, RULE_MARKS, RULES};
+use text::put::put_line;
+use text::words::{ONE_TAB, RULE};
 
 // A list whose actions are 0 as text, from the front of `text` on; the rest of `text` is as found. A refusal writes
 // nothing.
-pub fn rules_write(rules: &[u32], text: &mut [u8]) -> Written
+pub fn rules_write(rules: &[u32], text: &mut [u8]) -> Result<usize, Refusal>
     ensures { RulesWritten rules.now text.old result text.new }
 {
     list_write(Kind::Rules, rules, text)
 }
 
 // The same of a list with any actions.
-pub fn acl_write(rules: &[u32], text: &mut [u8]) -> Written
+pub fn acl_write(rules: &[u32], text: &mut [u8]) -> Result<usize, Refusal>
     ensures { AclWritten rules.now text.old result text.new }
 {
     list_write(Kind::Acl, rules, text)
 }
 
 // A list as text of a kind, if its lines can say the actions.
-fn list_write(kind: Kind, rules: &[u32], text: &mut [u8]) -> Written
+fn list_write(kind: Kind, rules: &[u32], text: &mut [u8]) -> Result<usize, Refusal>
     ensures { ListWritten kind rules.now text.old result text.new }
 {
-    match verdict_to(rules, most_action(kind)) {
-        Verdict::Refused(why) => Written::Refused(why),
-        Verdict::Fine => write_whole(kind, rules, text),
-    }
+    verdict_to(rules, kind.most_action())?;
+    write_whole(kind, rules, text)
 }
 
 // A good list as text, where there is room for all of it.
-fn write_whole(kind: Kind, rules: &[u32], text: &mut [u8]) -> Written
+fn write_whole(kind: Kind, rules: &[u32], text: &mut [u8]) -> Result<usize, Refusal>
     requires { list_verdict_to (most_action kind) rules.now ≡ Fine }
     ensures { Said (text_of kind rules.now) text.old result text.new }
 {
     let needed = write_pass(kind, rules, &mut text[..0]);
     if text.len() < needed {
-        return Written::Refused(Refusal::OutputShort { needed, output: 0 });
+        return Err(Refusal::OutputShort { needed, output: 0 });
     }
-    Written::Bytes {
-        bytes: write_pass(kind, rules, text),
-    }
+    Ok(write_pass(kind, rules, text))
 }
 
 // One pass: puts the whole text as far as there is room, and answers its length.
@@ -67,10 +63,8 @@ fn write_pass(kind: Kind, rules: &[u32], text: &mut [u8]) -> usize
 {
     let count = rules.len() / RULE_WORDS;
     let mut at = put_first(kind, text, count);
-    let mut i = 0;
-    while i < count {
+    for i in 0..count {
         at = put_rule(kind, text, at, rules, i);
-        i += 1;
     }
     put_end(text, at, count as u32 + 1)
 }
@@ -81,10 +75,7 @@ fn put_first(kind: Kind, text: &mut [u8], n: usize) -> usize
     ensures { Put text.old 0 (ended (first_line (format_of kind) n)) text.new result }
 {
     let values = [n as u32];
-    match kind {
-        Kind::Rules => put_line(text, 0, &RULES, &ONE_TAB, &values),
-        Kind::Acl => put_line(text, 0, &ACL, &ONE_TAB, &values),
-    }
+    put_line(text, 0, kind.word(), &ONE_TAB, &values)
 }
 
 // The line of rule `i`: as many of its numbers as the line has separators.
@@ -94,8 +85,5 @@ fn put_rule(kind: Kind, text: &mut [u8], at: usize, rules: &[u32], i: usize) -> 
         (ended (rule_line (format_of kind) i (rule_at rules.now i))) text.new result }
 {
     let values = values_of(i, rule_at(rules, i));
-    match kind {
-        Kind::Rules => put_line(text, at, &RULE, &RULE_MARKS, &values),
-        Kind::Acl => put_line(text, at, &RULE, &ACL_MARKS, &values),
-    }
+    put_line(text, at, &RULE, kind.marks(), &values)
 }

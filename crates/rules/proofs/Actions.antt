@@ -9,7 +9,7 @@ use lib.ListN.{get_or-eq_default}
 use lib.Dec.{leb}
 use borrow.Author.Tests.{leb-true, le-leb}
 use Rattle.facts.proofs.Bools.{both, join}
-use Rattle.refusals.specs.declared.Verdict.TheVariants.{Fine}
+use Rattle.refusals.specs.Verdict.{Fine}
 use Rattle.rules.specs.Words.{rule_count, action_of}
 use Rattle.rules.specs.Good.{fields_good, good_to, list_verdict_to}
 use Rattle.rules.proofs.Lists.{GoodRules, fine_iff_good}

@@ -5,7 +5,7 @@ use mathlib.Core.Bool.{true, false}
 use mathlib.Core.Path.{◌≡◌}
 use mathlib.Core.List.{List}
 use lib.ListN.{length}
-use borrow.Author.Tests.{lt-ltb, eq-eqb, ne_eqb}
+use borrow.Author.Tests.{lt-ltb, eq-eqb}
 use Rattle.fields.specs.Words.{field_count}
 use Rattle.rules.specs.Words.{rule_count, rule_there}
 use Rattle.rules.specs.Good.{good, rule_good}
@@ -23,16 +23,6 @@ module _ (rs : List ℕ) (r : ℕ) where
   good_decides e = rw e
 
 module _ (rs h : List ℕ) (r : ℕ) where
-  -- a rule that is not wholly lent does not match
-  pub not_there : rule_there rs r ≡ false → false ≡ rule_matches rs h r
-  unfolding rule_matches
-  not_there e = rw e
-
-  -- a header that is not five words matches nothing
-  pub not_five : rule_there rs r ≡ true → (length h ≡ field_count → ⊥) → false ≡ rule_matches rs h r
-  unfolding rule_matches
-  not_five e d = rw (e, ne_eqb (length h) field_count d)
-
   -- a rule that is there, and a header of five words, are compared
   pub rule_matches_of_there : r < rule_count rs → length h ≡ field_count → rule_matches rs h r ≡ matches rs h r
   unfolding rule_matches

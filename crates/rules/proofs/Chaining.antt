@@ -11,7 +11,7 @@ use lib.Seq.{get_or-set_same, get_or-set_other}
 use borrow.Author.Tests.{eq-eqb, ne_eqb}
 use Rattle.facts.proofs.Cases.{Order, below, same, above, order, same_or_not}
 use Rattle.refusals.specs.declared.Refusal.TheVariants.{RuleHasTwin}
-use Rattle.refusals.specs.declared.Verdict.TheVariants.{Fine, Refused}
+use Rattle.refusals.specs.Verdict.{Fine, Refused}
 use Rattle.refusals.proofs.Turns.{Head, head_first, head_step, head_stop, head_last}
 use Rattle.rules.specs.Words.{most_rules, rule_count}
 use Rattle.rules.specs.Twins.{same_words, earlier_twin, twin_verdict, twins_verdict}

@@ -1,5 +1,6 @@
 -- The call that says why a rule missed: of a good list and a legal header it says the lowest field that disagrees
 -- exactly where there is such a rule, and else that there is none.
+use Rattle.std.specs.Prelude.{Err, Ok}
 use Prim.Native.Nat.{ℕ, ◌<◌}
 use mathlib.Core.Bool.{true, false}
 use mathlib.Core.Path.{◌≡◌, refl, sym, ap, ◌∙◌}
@@ -9,13 +10,12 @@ use borrow.Author.Tests.{ltb-true, lt-ltb}
 use Rattle.facts.specs.Lists.{has}
 use Rattle.facts.proofs.Bools.{fails}
 use Rattle.refusals.specs.declared.Refusal.TheVariants.{RuleNotGood}
-use Rattle.refusals.specs.declared.Verdict.TheVariants.{Fine}
+use Rattle.refusals.specs.Verdict.{Fine}
 use Rattle.refusals.specs.Paper.{success}
 use Rattle.refusals.proofs.Order.{refused_not_fine, fails_refused, fine_iff_holds, then_fine}
 use Rattle.refusals.proofs.Promises.{says_refused, says_fine, refused_by, fine_by}
 use Rattle.fields.specs.Words.{field_count}
 use Rattle.fields.specs.Headers.{Legal}
-use Rattle.rules.specs.declared.miss.Missed.TheVariants.{Refused, At}
 use Rattle.rules.specs.Words.{rule_count, rule_there}
 use Rattle.rules.specs.Good.{list_verdict}
 use Rattle.rules.specs.Matching.{agrees, first_miss, matches, matching}
@@ -40,7 +40,7 @@ module _ (rs h : List ℕ) (n : ℕ) where
   -- a field is said exactly where there is such a rule and that is its lowest field that disagrees
   pub compared_iff :
       (f : ℕ) → list_verdict rs ≡ Fine → Legal h →
-      RuleCompared rs h n (At f) ↔ ((n < rule_count rs) × (first_miss rs h n ≡ f))
+      RuleCompared rs h n (Ok f) ↔ ((n < rule_count rs) × (first_miss rs h n ≡ f))
   compared_iff f fine legal = (
     λ p.
         let t = fine_by p refl in
@@ -55,7 +55,7 @@ module _ (rs h : List ℕ) (n : ℕ) where
   -- that there is none is said exactly where there is none
   pub no_rule_iff :
       list_verdict rs ≡ Fine → Legal h →
-      RuleCompared rs h n (Refused (RuleNotGood n)) ↔ (n < rule_count rs → ⊥)
+      RuleCompared rs h n (Err (RuleNotGood n)) ↔ (n < rule_count rs → ⊥)
   unfolding there_verdict
   no_rule_iff fine legal = (
     λ p l.
@@ -70,7 +70,7 @@ module _ (rs h : List ℕ) (n : ℕ) where
   -- 5 is said exactly where there is such a rule and it matches
   pub five_iff :
       list_verdict rs ≡ Fine → Legal h →
-      RuleCompared rs h n (At field_count) ↔ ((n < rule_count rs) × (matches rs h n ≡ true))
+      RuleCompared rs h n (Ok field_count) ↔ ((n < rule_count rs) × (matches rs h n ≡ true))
   five_iff fine legal = (
     λ p. let t = (compared_iff field_count fine legal).0 p in (t.0, (matches_iff_no_miss rs h n).1 t.1),
     λ t. (compared_iff field_count fine legal).1 (t.0, (matches_iff_no_miss rs h n).0 t.1),
@@ -78,7 +78,7 @@ module _ (rs h : List ℕ) (n : ℕ) where
 
   -- so exactly where its number is listed
   pub five_iff_listed :
-      list_verdict rs ≡ Fine → Legal h → RuleCompared rs h n (At field_count) ↔ (has (matching rs h) n ≡ true)
+      list_verdict rs ≡ Fine → Legal h → RuleCompared rs h n (Ok field_count) ↔ (has (matching rs h) n ≡ true)
   five_iff_listed fine legal = (
     λ p. (listed_iff_matches rs h n).1 ((five_iff fine legal).0 p),
     λ e. (five_iff fine legal).1 ((listed_iff_matches rs h n).0 e),
@@ -87,7 +87,7 @@ module _ (rs h : List ℕ) (n : ℕ) where
   -- a lower number is said exactly where there is such a rule, that field disagrees, and all lower ones agree
   pub lower_iff :
       list_verdict rs ≡ Fine → Legal h → (f : ℕ) → f < field_count →
-      RuleCompared rs h n (At f) ↔
+      RuleCompared rs h n (Ok f) ↔
       ((n < rule_count rs) × (agrees rs h n f ≡ false) × ((g : ℕ) → g < f → agrees rs h n g ≡ true))
   lower_iff fine legal f l = (
     λ p.

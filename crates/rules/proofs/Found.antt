@@ -1,5 +1,7 @@
 -- What the answers of the line search and of the scan mean: what is listed is what matches, the first is the lowest
 -- match, and none means none. A scan of any words speaks of the rules that it looks at, which in a good list are all.
+use Rattle.std.specs.Prelude.{Ok}
+use Rattle.rules.specs.Hits.{Rule, NoRule}
 use Prim.Native.Nat.{ℕ}
 use native.Mathlib.Nat.{min-eq_left}
 use native.Mathlib.Omega.{arith}
@@ -7,11 +9,9 @@ use mathlib.Core.Path.{◌≡◌, refl}
 use mathlib.Core.List.{List}
 use lib.ListN.{length}
 use Rattle.facts.specs.Lists.{up_from, keep}
-use Rattle.refusals.specs.declared.Verdict.{Verdict}
-use Rattle.refusals.specs.declared.Verdict.TheVariants.{Fine}
+use Rattle.refusals.specs.Verdict.{Verdict}
+use Rattle.refusals.specs.Verdict.{Fine}
 use Rattle.refusals.proofs.Promises.{said_by, fine_by, left_written}
-use Rattle.rules.specs.declared.line.Listed.TheVariants.{Found}
-use Rattle.rules.specs.declared.line.First.TheVariants.{Rule, NoRule}
 use Rattle.rules.specs.Words.{rule_count}
 use Rattle.rules.specs.Good.{list_verdict}
 use Rattle.rules.specs.Matching.{matches, matching}
@@ -31,7 +31,7 @@ module _ (rs h : List ℕ) where
   -- what lists the matches below m lists exactly these
   lists_found :
       (m : ℕ) {v : Verdict} {before after : List ℕ} {n : ℕ} →
-      Lists v (keep (matches rs h) (up_from 0 m)) before (Found n) after → AllMatches m rs h n after
+      Lists v (keep (matches rs h) (up_from 0 m)) before (Ok n) after → AllMatches m rs h n after
   lists_found m {before = before} {after = after} {n = n} w =
       let f = fine_by (said_by w) refl in
       let size : length (keep (matches rs h) (up_from 0 m)) ≡ n = (let e = f.1 in cc) in
@@ -39,14 +39,14 @@ module _ (rs h : List ℕ) where
 
   -- the line search lists exactly the rules that match, rising
   pub line_all_found :
-      (before after : List ℕ) (n : ℕ) → LineAllSearched rs h before (Found n) after →
+      (before after : List ℕ) (n : ℕ) → LineAllSearched rs h before (Ok n) after →
       AllMatches (rule_count rs) rs h n after
   unfolding matching
   line_all_found before after n w = lists_found (rule_count rs) w
 
   -- a scan lists exactly those that match of the rules that it looks at, rising
   pub scan_all_found :
-      (before after : List ℕ) (n : ℕ) → ScanAllSearched rs h before (Found n) after →
+      (before after : List ℕ) (n : ℕ) → ScanAllSearched rs h before (Ok n) after →
       AllMatches (scan_count rs) rs h n after
   unfolding scanned
   scan_all_found before after n w = lists_found (scan_count rs) w

@@ -20,3 +20,4 @@ pub mod Searches
 pub mod Found
 pub mod Comparing
 pub mod Unique
+pub mod Walks

@@ -1,4 +1,7 @@
 -- The line search and the scan: each answer from what was found on the way to it.
+use Rattle.std.specs.Prelude.{Err, Option, Result}
+use Rattle.rules.specs.declared.line.Hit.{Hit}
+use Rattle.rules.specs.Hits.{NoRule, Rule}
 use Prim.Native.Nat.{ℕ, ◌≤◌, ◌<◌}
 use native.Mathlib.Nat.{min-eq_left, min-le_left, min-le_right}
 use native.Mathlib.Omega.{arith}
@@ -11,16 +14,12 @@ use Rattle.facts.proofs.Steps.{length_up}
 use Rattle.facts.proofs.Filling.{keep_at_most}
 use Rattle.facts.proofs.Members.{has_first, kept_iff, up_iff}
 use Rattle.refusals.specs.declared.Refusal.{Refusal}
-use Rattle.refusals.specs.declared.Verdict.TheVariants.{Fine, Refused}
+use Rattle.refusals.specs.Verdict.{Fine, Refused}
 use Rattle.refusals.proofs.Order.{then_refused, then_fine_iff}
 use Rattle.refusals.proofs.Promises.{fine_by, says_after, writes_refused, writes_after}
 use Rattle.fields.specs.Words.{field_count}
 use Rattle.fields.specs.Headers.{header_verdict}
 use Rattle.fields.proofs.Headers.{legal_iff}
-use Rattle.rules.specs.declared.line.Listed.{Listed}
-use Rattle.rules.specs.declared.line.Listed.TheVariants as listed
-use Rattle.rules.specs.declared.line.First.{First}
-use Rattle.rules.specs.declared.line.First.TheVariants as first
 use Rattle.rules.specs.Words.{most_rules, rule_count, action_of}
 use Rattle.rules.specs.Good.{list_verdict}
 use Rattle.rules.specs.Matching.{matches, matching}
@@ -63,13 +62,13 @@ module _ (rs h : List ℕ) where
   -- where the header is refused, that is the scan's answer, and the words are as found
   pub scan_refused :
       (before : List ℕ) {why : Refusal} → header_verdict h ≡ Refused why →
-      ScanAllSearched rs h before (listed.Refused why) before
+      ScanAllSearched rs h before (Err why) before
   unfolding scan_verdict
   scan_refused before e = writes_refused (then_refused _ e) refl refl
 
   -- where it is fine, the matches are listed if there is room
   pub scan_found :
-      {before : List ℕ} {r : Listed} {after : List ℕ} → header_verdict h ≡ Fine →
+      {before : List ℕ} {r : Result ℕ Refusal} {after : List ℕ} → header_verdict h ≡ Fine →
       MatchesListed rs h before r after → ScanAllSearched rs h before r after
   unfolding scan_verdict
   scan_found e w = writes_after e w
@@ -77,13 +76,13 @@ module _ (rs h : List ℕ) where
   -- where the list is refused, that is the line search's answer, and the words are as found
   pub all_refused :
       (before : List ℕ) {why : Refusal} → list_verdict rs ≡ Refused why →
-      LineAllSearched rs h before (listed.Refused why) before
+      LineAllSearched rs h before (Err why) before
   unfolding all_verdict
   all_refused before e = writes_refused (then_refused _ e) refl refl
 
   -- where it is fine, the line search answers as the scan
   pub all_scanned :
-      {before : List ℕ} {r : Listed} {after : List ℕ} → list_verdict rs ≡ Fine →
+      {before : List ℕ} {r : Result ℕ Refusal} {after : List ℕ} → list_verdict rs ≡ Fine →
       ScanAllSearched rs h before r after → LineAllSearched rs h before r after
   unfolding all_verdict scan_verdict
   all_scanned e w = writes_after e (rw (scanned_of_good e) at w)
@@ -98,15 +97,15 @@ module _ (rs h : List ℕ) where
   -- the first of the matches, with its action, is the first match
   pub found_first :
       {r action : ℕ} {rest : List ℕ} → scanned rs h ≡ r ∷ rest → action ≡ action_of rs r →
-      FirstIs rs h (first.Rule r action)
+      FirstIs rs h (Rule r action)
   found_first e a = record { is = rw (e, a) }
 
   -- where nothing matches there is no first match
-  pub found_none : scanned rs h ≡ [] → FirstIs rs h first.NoRule
+  pub found_none : scanned rs h ≡ [] → FirstIs rs h NoRule
   found_none e = record { is = rw e }
 
   -- where the list is fine, the line search answers as the scan
-  pub first_scanned : {r : First} → list_verdict rs ≡ Fine → ScanFirstSearched rs h r → LineFirstSearched rs h r
+  pub first_scanned : {r : Result (Option Hit) Refusal} → list_verdict rs ≡ Fine → ScanFirstSearched rs h r → LineFirstSearched rs h r
   first_scanned e p = says_after e (rw (scanned_of_good e) at p)
 
 -- ---- the number of a first match, and its action
@@ -129,14 +128,14 @@ first_kept rs p k {n} (r ∷ rest) e q =
 
 module _ (rs h : List ℕ) {n a : ℕ} where
   -- a rule that a scan finds has a word of 32 bits for its number
-  pub scan_first_below : ScanFirstSearched rs h (first.Rule n a) → n < most_scanned
+  pub scan_first_below : ScanFirstSearched rs h (Rule n a) → n < most_scanned
   unfolding scanned
   scan_first_below p =
       let below = first_kept rs (matches rs h) (scan_count rs) (scanned rs h) refl (fine_by p refl).1 in
       omega (arith, below, scan_count_fits rs)
 
   -- and one that the line search finds has a number below `most_rules`
-  pub first_below : LineFirstSearched rs h (first.Rule n a) → n < most_rules
+  pub first_below : LineFirstSearched rs h (Rule n a) → n < most_rules
   unfolding matching
   first_below p =
       let f = fine_by p refl in

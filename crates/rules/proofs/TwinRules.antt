@@ -10,7 +10,7 @@ use Rattle.facts.proofs.Bools.{clash, fails}
 use Rattle.facts.proofs.Cases.{Order, below, same, above, order}
 use Rattle.refusals.specs.declared.Refusal.{Refusal}
 use Rattle.refusals.specs.declared.Refusal.TheVariants.{RuleHasTwin}
-use Rattle.refusals.specs.declared.Verdict.TheVariants.{Fine, Refused}
+use Rattle.refusals.specs.Verdict.{Fine, Refused}
 use Rattle.refusals.proofs.Order.{refused_not_fine, holds_fine, fails_refused, fine_iff_holds}
 use Rattle.refusals.proofs.Turns.{turns_fine_iff, LowestRefusal, lowest_of_turns, turns_of_lowest}
 use Rattle.rules.specs.Words.{rule_count}

@@ -10,7 +10,7 @@
 use Rattle.std.specs.Prelude.{ℕ, ◌*◌, ◌%◌, Bool, ◌&&◌, List, length, leb, eqb}
 use Rattle.facts.specs.Below.{all_below}
 use Rattle.refusals.specs.declared.Refusal.TheVariants.{RuleWordsWrong, RuleNotGood}
-use Rattle.refusals.specs.declared.Verdict.{Verdict}
+use Rattle.refusals.specs.Verdict.{Verdict}
 use Rattle.refusals.specs.Order.{refuse_unless, ◌then◌, in_turn}
 use Rattle.fields.specs.Words.{field_count}
 use Rattle.fields.specs.Fields.{field_good}

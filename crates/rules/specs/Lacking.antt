@@ -1,7 +1,8 @@
 -- What a list of entries lacks. Definitions only.
 --   lacking rs l b r       rule r's box meets box b, and r is not among the entries l
 --   lowest_lacking rs l b  the lowest rule that l lacks in b; the number of rules where l lacks none
-use Rattle.std.specs.Prelude.{ℕ, Bool, not, ◌&&◌, List}
+--   lacked rs l b          that rule, or none
+use Rattle.std.specs.Prelude.{ℕ, Bool, cond, ltb, not, ◌&&◌, List, None, Option, Some}
 use Rattle.facts.specs.Below.{lowest}
 use Rattle.facts.specs.Lists.{has}
 use Rattle.fields.specs.Words.{field_count}
@@ -14,3 +15,6 @@ lacking rs l b r = meets field_count (rule_box rs r) b && not (has l r)
 
 unfoldable pub lowest_lacking : List ℕ → List ℕ → List (List ℕ) → ℕ
 lowest_lacking rs l b = lowest (rule_count rs) 0 (lacking rs l b)
+
+unfoldable pub lacked : List ℕ → List ℕ → List (List ℕ) → Option ℕ
+lacked rs l b = let r = lowest_lacking rs l b in cond (ltb r (rule_count rs)) (Some r) None

@@ -9,6 +9,7 @@ pub mod Lacking
 pub mod Chains
 pub mod RuleCheck
 pub mod LineAll
+pub mod Hits
 pub mod LineFirst
 pub mod Scan
 pub mod Found

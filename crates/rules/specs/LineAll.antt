@@ -4,26 +4,24 @@
 --                           lent words, the rest as found
 --   all_verdict rs h room   1, 2, 11, 3, then 4 where the room is less than the number of matches
 --   LineAllSearched         the promise: it lists the matching numbers
-use Rattle.std.specs.Prelude.{ℕ, List, [], ◌∷◌, length}
-use Rattle.refusals.specs.declared.Verdict.{Verdict}
-use Rattle.refusals.specs.Paper.{Paper, success, on_paper}
+use Rattle.refusals.specs.declared.Refusal.{Refusal}
+use Rattle.std.specs.Prelude.{ℕ, List, [], ◌∷◌, length, Result}
+use Rattle.refusals.specs.Verdict.{Verdict}
+use Rattle.refusals.specs.Paper.{Paper, counted}
 use Rattle.refusals.specs.Order.{room_verdict, ◌then◌}
 use Rattle.refusals.specs.Promises.{Writes}
 use Rattle.fields.specs.Headers.{header_verdict}
-use Rattle.rules.specs.declared.line.Listed.{Listed}
-use Rattle.rules.specs.declared.line.Listed.TheVariants.{Refused, Found}
 use Rattle.rules.specs.Good.{list_verdict}
 use Rattle.rules.specs.Matching.{matching}
 
-abbrev pub paper : Listed → Paper
-paper (Refused why) = on_paper why
-paper (Found count) = success (count ∷ [])
+abbrev pub paper : Result ℕ Refusal → Paper
+paper = counted
 
-abbrev pub Lists : Verdict → List ℕ → List ℕ → Listed → List ℕ → Type 0
+abbrev pub Lists : Verdict → List ℕ → List ℕ → Result ℕ Refusal → List ℕ → Type 0
 Lists v ms before r after = Writes paper v (length ms ∷ []) ms before r after
 
 unfoldable pub all_verdict : List ℕ → List ℕ → ℕ → Verdict
 all_verdict rs h room = list_verdict rs then header_verdict h then room_verdict (length (matching rs h)) room
 
-abbrev pub LineAllSearched : List ℕ → List ℕ → List ℕ → Listed → List ℕ → Type 0
+abbrev pub LineAllSearched : List ℕ → List ℕ → List ℕ → Result ℕ Refusal → List ℕ → Type 0
 LineAllSearched rs h before r after = Lists (all_verdict rs h (length before)) (matching rs h) before r after

@@ -6,14 +6,14 @@
 --   scan_verdict rs h room   3, then 4 where the room is less than the number of matches
 --   ScanAllSearched          the promise: it lists the numbers that match
 --   ScanFirstSearched        the promise: 3; else the lowest number that matches, and its rule's action
-use Rattle.std.specs.Prelude.{ℕ, ◌^◌, min, List, length}
+use Rattle.rules.specs.declared.line.Hit.{Hit}
+use Rattle.refusals.specs.declared.Refusal.{Refusal}
+use Rattle.std.specs.Prelude.{ℕ, ◌^◌, min, List, length, Option, Result}
 use Rattle.facts.specs.Lists.{up_from, keep}
-use Rattle.refusals.specs.declared.Verdict.{Verdict}
+use Rattle.refusals.specs.Verdict.{Verdict}
 use Rattle.refusals.specs.Order.{room_verdict, ◌then◌}
 use Rattle.refusals.specs.Promises.{Says}
 use Rattle.fields.specs.Headers.{header_verdict}
-use Rattle.rules.specs.declared.line.Listed.{Listed}
-use Rattle.rules.specs.declared.line.First.{First}
 use Rattle.rules.specs.Words.{rule_count}
 use Rattle.rules.specs.Matching.{matches}
 use Rattle.rules.specs.LineAll.{Lists}
@@ -31,8 +31,8 @@ scanned rs h = keep (matches rs h) (up_from 0 (scan_count rs))
 unfoldable pub scan_verdict : List ℕ → List ℕ → ℕ → Verdict
 scan_verdict rs h room = header_verdict h then room_verdict (length (scanned rs h)) room
 
-abbrev pub ScanAllSearched : List ℕ → List ℕ → List ℕ → Listed → List ℕ → Type 0
+abbrev pub ScanAllSearched : List ℕ → List ℕ → List ℕ → Result ℕ Refusal → List ℕ → Type 0
 ScanAllSearched rs h before r after = Lists (scan_verdict rs h (length before)) (scanned rs h) before r after
 
-abbrev pub ScanFirstSearched : List ℕ → List ℕ → First → Type 0
+abbrev pub ScanFirstSearched : List ℕ → List ℕ → Result (Option Hit) Refusal → Type 0
 ScanFirstSearched rs h r = Says paper (header_verdict h) (first_of rs (scanned rs h)) r

@@ -10,7 +10,7 @@
 use Rattle.std.specs.Prelude.{ℕ, ◌<◌, Bool, true, ◌≡◌, List, leb, eqb}
 use Rattle.facts.specs.Below.{all_below, lowest}
 use Rattle.refusals.specs.declared.Refusal.TheVariants.{RuleHasTwin}
-use Rattle.refusals.specs.declared.Verdict.{Verdict}
+use Rattle.refusals.specs.Verdict.{Verdict}
 use Rattle.refusals.specs.Order.{refuse_unless, in_turn}
 use Rattle.rules.specs.Words.{match_words, rule_count, word_of}
 

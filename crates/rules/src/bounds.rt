@@ -11,10 +11,7 @@ use fields::header::FIELDS;
 pub fn ends_of(rules: &[u32], r: usize, f: usize) -> [u32; 2]
     ensures { result ≡ ends_of rules.now r f }
 {
-    if !rule_there(rules, r) {
-        return [0, 0];
-    }
-    if FIELDS <= f {
+    if !rule_there(rules, r) || FIELDS <= f {
         return [0, 0];
     }
     field_bounds(field_of(rules, r, f))

@@ -8,72 +8,55 @@ use crate::twins::twins_verdict;
 use crate::words::{LARGEST_ACTION, MOST_RULES, RULE_WORDS, action_of, field_of, rule_there};
 use fields::field::field_good;
 use fields::header::FIELDS;
-use refusals::{Refusal, Verdict};
-
-#[derive(Clone, Copy)]
-pub enum Checked {
-    Refused(Refusal),
-    Good { rules: usize },
-}
+use refusals::Refusal;
 
 // The number of rules of a good list. Nothing is written.
-pub fn rule_check(rules: &[u32]) -> Checked
+pub fn rule_check(rules: &[u32]) -> Result<usize, Refusal>
     ensures { RuleChecked rules.now result }
 {
-    match list_verdict(rules) {
-        Verdict::Refused(why) => Checked::Refused(why),
-        Verdict::Fine => Checked::Good {
-            rules: rules.len() / RULE_WORDS,
-        },
-    }
+    list_verdict(rules)?;
+    Ok(rules.len() / RULE_WORDS)
 }
 
 // Whether a list is good.
-pub fn list_verdict(rules: &[u32]) -> Verdict
+pub fn list_verdict(rules: &[u32]) -> Result<(), Refusal>
     ensures { result ≡ list_verdict rules.now }
 {
     verdict_to(rules, LARGEST_ACTION)
 }
 
 // Whether a list is good, with actions of at most `most`: its words and its rules first, and then twins.
-pub fn verdict_to(rules: &[u32], most: u32) -> Verdict
+pub fn verdict_to(rules: &[u32], most: u32) -> Result<(), Refusal>
     ensures { result ≡ list_verdict_to most rules.now }
 {
-    match rules_verdict(rules, most) {
-        Verdict::Refused(why) => Verdict::Refused(why),
-        Verdict::Fine => twins_verdict(rules),
-    }
+    rules_verdict(rules, most)?;
+    twins_verdict(rules)
 }
 
 // Whether a list is good, twins aside. The number of words is looked at first, and then the rules, from the lowest.
-fn rules_verdict(rules: &[u32], most: u32) -> Verdict
+fn rules_verdict(rules: &[u32], most: u32) -> Result<(), Refusal>
     ensures { result ≡ rules_verdict most rules.now }
 {
     if rules.len() % RULE_WORDS != 0 {
-        return Verdict::Refused(Refusal::RuleWordsWrong);
+        return Err(Refusal::RuleWordsWrong);
     }
     if MOST_RULES * RULE_WORDS < rules.len() {
-        return Verdict::Refused(Refusal::RuleWordsWrong);
+        return Err(Refusal::RuleWordsWrong);
     }
     let count = rules.len() / RULE_WORDS;
-    let mut rule = 0;
-    while rule < count {
+    for rule in 0..count {
         if !good_to(rules, rule, most) {
-            return Verdict::Refused(Refusal::RuleNotGood { rule });
+            return Err(Refusal::RuleNotGood { rule });
         }
-        rule += 1;
     }
-    Verdict::Fine
+    Ok(())
 }
 
 // Whether rule `r` is wholly lent and good.
 pub fn rule_good(rules: &[u32], r: usize) -> bool
     ensures { result ≡ rule_good rules.now r }
 {
-    if !rule_there(rules, r) {
-        return false;
-    }
-    good_to(rules, r, LARGEST_ACTION)
+    rule_there(rules, r) && good_to(rules, r, LARGEST_ACTION)
 }
 
 // Whether rule `r` is good, with an action of at most `most`.
@@ -81,10 +64,7 @@ fn good_to(rules: &[u32], r: usize, most: u32) -> bool
     requires { r < rule_count rules.now }
     ensures { result ≡ good_to most rules.now r }
 {
-    if !fields_good(rules, r) {
-        return false;
-    }
-    action_of(rules, r) <= most
+    fields_good(rules, r) && action_of(rules, r) <= most
 }
 
 // Whether each field of rule `r` is good.
@@ -92,12 +72,5 @@ fn fields_good(rules: &[u32], r: usize) -> bool
     requires { r < rule_count rules.now }
     ensures { result ≡ fields_good rules.now r }
 {
-    let mut f = 0;
-    while f < FIELDS {
-        if !field_good(field_of(rules, r, f)) {
-            return false;
-        }
-        f += 1;
-    }
-    true
+    (0..FIELDS).all(|f| field_good(field_of(rules, r, f)))
 }

@@ -1,7 +1,7 @@
 // The line-by-line search: each rule of the list is compared with the header, from the lowest number up. `line_all` and
 // `line_first` judge the list first. `scan_all` and `scan_first` judge none, for a list that was judged before; they
 // take any words.
-ghost use Rattle.std.specs.Prelude.{◌≡◌, length};
+ghost use Rattle.std.specs.Prelude.{◌≡◌, length, Ok};
 ghost use Rattle.fields.specs.Words.{field_count};
 ghost use Rattle.rules.specs.LineAll.{LineAllSearched};
 ghost use Rattle.rules.specs.LineFirst.{LineFirstSearched};
@@ -13,85 +13,67 @@ use crate::matching::matches;
 use crate::words::{RULE_WORDS, action_of};
 use fields::header::header_verdict;
 use lent::store;
-use refusals::{Refusal, Verdict};
+use refusals::Refusal;
 
 // The most rules that a scan looks at: those whose numbers are words of 32 bits.
-const MOST_SCANNED: usize = 4_294_967_296;
+const MOST_SCANNED: usize = 1 << u32::BITS;
 
+// The lowest rule that matches, and its action.
 #[derive(Clone, Copy)]
-pub enum Listed {
-    Refused(Refusal),
-    Found { count: usize },
-}
-
-#[derive(Clone, Copy)]
-pub enum First {
-    Refused(Refusal),
-    Rule { number: usize, action: u32 },
-    NoRule,
+pub struct Hit {
+    pub number: u32,
+    pub action: u32,
 }
 
 // Every number that matches, rising, from the front of `out` on; the rest of `out` is as found. A refusal writes
 // nothing.
-pub fn line_all(rules: &[u32], header: &[u32], out: &mut [u32]) -> Listed
+pub fn line_all(rules: &[u32], header: &[u32], out: &mut [u32]) -> Result<usize, Refusal>
     ensures { LineAllSearched rules.now header.now out.old result
         out.new }
 {
-    match list_verdict(rules) {
-        Verdict::Refused(why) => Listed::Refused(why),
-        Verdict::Fine => scan_all(rules, header, out),
-    }
+    list_verdict(rules)?;
+    scan_all(rules, header, out)
 }
 
 // The lowest number that matches and the action of its rule, or that none does. Nothing is written.
-pub fn line_first(rules: &[u32], header: &[u32]) -> First
+pub fn line_first(rules: &[u32], header: &[u32]) -> Result<Option<Hit>, Refusal>
     ensures { LineFirstSearched rules.now header.now result }
 {
-    match list_verdict(rules) {
-        Verdict::Refused(why) => First::Refused(why),
-        Verdict::Fine => scan_first(rules, header),
-    }
+    list_verdict(rules)?;
+    scan_first(rules, header)
 }
 
 // As `line_all`, but the list is not judged: words past the last whole rule are no rule.
-pub fn scan_all(rules: &[u32], header: &[u32], out: &mut [u32]) -> Listed
+pub fn scan_all(rules: &[u32], header: &[u32], out: &mut [u32]) -> Result<usize, Refusal>
     ensures { ScanAllSearched rules.now header.now out.old result
         out.new }
 {
-    match header_verdict(header) {
-        Verdict::Refused(why) => Listed::Refused(why),
-        Verdict::Fine => list_matches(rules, header, out),
-    }
+    header_verdict(header)?;
+    list_matches(rules, header, out)
 }
 
 // As `line_first`, but the list is not judged.
-pub fn scan_first(rules: &[u32], header: &[u32]) -> First
+pub fn scan_first(rules: &[u32], header: &[u32]) -> Result<Option<Hit>, Refusal>
     ensures { ScanFirstSearched rules.now header.now result }
 {
-    match header_verdict(header) {
-        Verdict::Refused(why) => First::Refused(why),
-        Verdict::Fine => first_match(rules, header),
-    }
+    header_verdict(header)?;
+    Ok(first_match(rules, header))
 }
 
 // Every match, if there is room for them all. Where the room holds all rules, nothing need be counted first.
-fn list_matches(rules: &[u32], header: &[u32], out: &mut [u32]) -> Listed
+fn list_matches(rules: &[u32], header: &[u32], out: &mut [u32]) -> Result<usize, Refusal>
     requires { length header.now ≡ field_count }
     ensures { MatchesListed rules.now header.now out.old result
         out.new }
 {
     if scan_count(rules) <= out.len() {
-        return Listed::Found {
-            count: store_matches(rules, header, out),
-        };
+        return Ok(store_matches(rules, header, out));
     }
     let needed = store_matches(rules, header, &mut out[..0]);
     if out.len() < needed {
-        return Listed::Refused(Refusal::OutputShort { needed, output: 0 });
+        return Err(Refusal::OutputShort { needed, output: 0 });
     }
-    Listed::Found {
-        count: store_matches(rules, header, out),
-    }
+    Ok(store_matches(rules, header, out))
 }
 
 // Stores the numbers of the rules that match as far as there is room, and says how many match.
@@ -101,43 +83,35 @@ fn store_matches(rules: &[u32], header: &[u32], out: &mut [u32]) -> usize
 {
     let count = scan_count(rules);
     let mut n = 0;
-    let mut r = 0;
-    while r < count {
+    for r in 0..count {
         if matches(rules, header, r) {
             store(out, n, r as u32);
             n += 1;
         }
-        r += 1;
     }
     n
 }
 
 // The first match and its action.
-fn first_match(rules: &[u32], header: &[u32]) -> First
+fn first_match(rules: &[u32], header: &[u32]) -> Option<Hit>
     requires { length header.now ≡ field_count }
-    ensures { FirstIs rules.now header.now result }
+    ensures { FirstIs rules.now header.now (Ok result) }
 {
     let count = scan_count(rules);
-    let mut r = 0;
-    while r < count {
+    for r in 0..count {
         if matches(rules, header, r) {
-            return First::Rule {
-                number: r,
+            return Some(Hit {
+                number: r as u32,
                 action: action_of(rules, r),
-            };
+            });
         }
-        r += 1;
     }
-    First::NoRule
+    None
 }
 
 // How many rules are looked at: those that are whole, as far as a word of 32 bits can number them.
 fn scan_count(rules: &[u32]) -> usize
     ensures { result ≡ scan_count rules.now }
 {
-    let count = rules.len() / RULE_WORDS;
-    if count <= MOST_SCANNED {
-        return count;
-    }
-    MOST_SCANNED
+    (rules.len() / RULE_WORDS).min(MOST_SCANNED)
 }

@@ -12,13 +12,7 @@ use fields::header::FIELDS;
 pub fn rule_matches(rules: &[u32], header: &[u32], r: usize) -> bool
     ensures { result ≡ rule_matches rules.now header.now r }
 {
-    if !rule_there(rules, r) {
-        return false;
-    }
-    if header.len() != FIELDS {
-        return false;
-    }
-    matches(rules, header, r)
+    rule_there(rules, r) && header.len() == FIELDS && matches(rules, header, r)
 }
 
 // Whether rule `r` matches the header: no field disagrees.
@@ -45,12 +39,10 @@ fn miss_in_rule(rule: &[u32], header: &[u32]) -> usize
     requires { (0 < rule_count rule.now) × (length header.now ≡ field_count) }
     ensures { result ≡ first_miss rule.now header.now 0 }
 {
-    let mut f = 0;
-    while f < FIELDS {
+    for f in 0..FIELDS {
         if !field_matches(field_of(rule, 0, f), header[f]) {
             return f;
         }
-        f += 1;
     }
-    f
+    FIELDS
 }

@@ -7,37 +7,24 @@ use crate::check::list_verdict;
 use crate::matching::first_miss;
 use crate::words::rule_there;
 use fields::header::header_verdict;
-use refusals::{Refusal, Verdict};
-
-// A field, or the number of fields where the rule matches.
-#[derive(Clone, Copy)]
-pub enum Missed {
-    Refused(Refusal),
-    At { field: usize },
-}
+use refusals::Refusal;
 
 // The lowest field of rule `number` that disagrees with the header, or the number of fields. Nothing is written.
-pub fn rule_misses(rules: &[u32], header: &[u32], number: usize) -> Missed
+pub fn rule_misses(rules: &[u32], header: &[u32], number: usize) -> Result<usize, Refusal>
     ensures { RuleCompared rules.now header.now number result }
 {
-    match list_verdict(rules) {
-        Verdict::Refused(why) => Missed::Refused(why),
-        Verdict::Fine => match header_verdict(header) {
-            Verdict::Refused(why) => Missed::Refused(why),
-            Verdict::Fine => miss_of(rules, header, number),
-        },
-    }
+    list_verdict(rules)?;
+    header_verdict(header)?;
+    miss_of(rules, header, number)
 }
 
 // The same once the list and the header are judged: whether there is such a rule is looked at last.
-fn miss_of(rules: &[u32], header: &[u32], number: usize) -> Missed
+fn miss_of(rules: &[u32], header: &[u32], number: usize) -> Result<usize, Refusal>
     requires { length header.now ≡ field_count }
     ensures { MissOf rules.now header.now number result }
 {
     if !rule_there(rules, number) {
-        return Missed::Refused(Refusal::RuleNotGood { rule: number });
+        return Err(Refusal::RuleNotGood { rule: number });
     }
-    Missed::At {
-        field: first_miss(rules, header, number),
-    }
+    Ok(first_miss(rules, header, number))
 }

@@ -8,7 +8,7 @@ ghost use Rattle.rules.specs.Chains.{slot_of, latest_in, Chained, SlotsAhead};
 
 use crate::words::{MATCH_WORDS, MOST_RULES, RULE_WORDS, word_of};
 use lent::wide;
-use refusals::{Refusal, Verdict};
+use refusals::Refusal;
 
 // The number of slots.
 const SLOTS: usize = 512;
@@ -21,12 +21,12 @@ const FACTORS: [usize; MATCH_WORDS] = [
 ];
 
 // What a mix is divided by: its lowest 24 bits are dropped.
-const DROPPED: usize = 16_777_216;
+const DROPPED: usize = 1 << 24;
 
 // 11 at the lowest rule that has the words of an earlier one. `latest` has for each slot the place of its latest rule.
 // `before` has for each rule that is chained the place of the one before it in its slot: its number and 1 more, or 0
 // for none. For each other rule it has the slot.
-pub(crate) fn twins_verdict(rules: &[u32]) -> Verdict
+pub(crate) fn twins_verdict(rules: &[u32]) -> Result<(), Refusal>
     requires { rule_count rules.now ≤ most_rules }
     ensures { result ≡ twins_verdict rules.now }
 {
@@ -34,19 +34,17 @@ pub(crate) fn twins_verdict(rules: &[u32]) -> Verdict
     put_slots(rules, &mut before);
     let mut latest = [0u32; SLOTS];
     let count = rules.len() / RULE_WORDS;
-    let mut rule = 0;
-    while rule < count {
+    for rule in 0..count {
         let slot = wide(before[rule]);
         let place = latest[slot];
         let earlier = twin_in(rules, &before, place, rule);
         if earlier < rule {
-            return Verdict::Refused(Refusal::RuleHasTwin { rule, earlier });
+            return Err(Refusal::RuleHasTwin { rule, earlier });
         }
         before[rule] = place;
         latest[slot] = rule as u32 + 1;
-        rule += 1;
     }
-    Verdict::Fine
+    Ok(())
 }
 
 // The rule with the words of rule `r` in the chain that begins at a place; `r` where there is none.
@@ -56,6 +54,7 @@ fn twin_in(rules: &[u32], before: &[u32], place: u32, r: usize) -> usize
     ensures { result ≡ earlier_twin rules.now r }
 {
     let mut next = wide(place);
+    // The loop follows the links of a chain, so no range or list has its places in order.
     while 0 < next {
         let q = next - 1;
         if same_words(rules, q, r) {
@@ -71,14 +70,8 @@ fn same_words(rules: &[u32], q: usize, r: usize) -> bool
     requires { (q < rule_count rules.now) × (r < rule_count rules.now) }
     ensures { result ≡ same_words rules.now q r }
 {
-    let mut j = 0;
-    while j < MATCH_WORDS {
-        if word_of(rules, q, j) != word_of(rules, r, j) {
-            return false;
-        }
-        j += 1;
-    }
-    true
+    // The rules that are compared mostly differ in an early word, and `==` of slices was slower.
+    (0..MATCH_WORDS).all(|j| word_of(rules, q, j) == word_of(rules, r, j))
 }
 
 // Puts the slot of each rule. A loop by itself works them out, so that no sum waits for what is found in a chain.
@@ -87,10 +80,8 @@ fn put_slots(rules: &[u32], before: &mut [u32])
     ensures { SlotsAhead rules.now (slot_of rules.now) before.new 0 }
 {
     let count = rules.len() / RULE_WORDS;
-    let mut r = 0;
-    while r < count {
+    for r in 0..count {
         before[r] = slot_of(rules, r) as u32;
-        r += 1;
     }
 }
 
@@ -100,10 +91,8 @@ fn slot_of(rules: &[u32], r: usize) -> usize
     ensures { result ≡ slot_of rules.now r }
 {
     let mut mix = 0;
-    let mut k = 0;
-    while k < MATCH_WORDS {
-        mix += wide(word_of(rules, r, k)) * FACTORS[k];
-        k += 1;
+    for (k, factor) in FACTORS.iter().enumerate() {
+        mix += wide(word_of(rules, r, k)) * factor;
     }
     mix / DROPPED % SLOTS
 }

@@ -1,4 +1,5 @@
 -- What the arguments ask for, and then the run.
+use Rattle.system.specs.Said.{Number, Wrong, Told}
 use Prim.Native.Nat.{ℕ, ◌≤◌}
 use mathlib.Core.Bool.{Bool, true}
 use mathlib.Core.Path.{◌≡◌, sym, subst}
@@ -7,8 +8,6 @@ use Rattle.console.specs.MissLines.{miss_answer}
 use Rattle.policy.specs.StepOutput.{first_step}
 use Rattle.ledger.specs.Ledger.{Entry, counted, enter, Enters}
 use Rattle.ledger.proofs.Entering.{enters_as, enters_then, enters_first}
-use Rattle.system.specs.declared.arguments.Told.{Told}
-use Rattle.system.specs.declared.arguments.Told.TheVariants.{Wrong, Number}
 use Rattle.system.specs.TellsNumber.{TellsNumber}
 use Rattle.system.specs.Handing.{HandedOut}
 use Rattle.system.specs.Turns.{InputAnswered}

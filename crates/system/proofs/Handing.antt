@@ -1,4 +1,5 @@
 -- What is handed out: what was said in front of lent bytes, where there is room for it.
+use Rattle.std.specs.Prelude.{Err, Ok, Result}
 use Prim.Native.Nat.{ℕ, ◌≤◌}
 use native.Mathlib.Omega.{arith}
 use mathlib.Core.Bool.{Bool, true, false}
@@ -8,14 +9,12 @@ use lib.ListN.{length, take, drop, length-append}
 use Rattle.facts.specs.Lists.{written}
 use Rattle.facts.proofs.Setting.{written_front}
 use Rattle.refusals.specs.declared.Refusal.{Refusal}
-use Rattle.refusals.specs.declared.Verdict.{Verdict}
-use Rattle.refusals.specs.declared.Verdict.TheVariants as verdict
+use Rattle.refusals.specs.Verdict.{Verdict}
+use Rattle.refusals.specs.Verdict as verdict
 use Rattle.refusals.specs.Order.{room_verdict, ◌then◌}
 use Rattle.refusals.specs.Promises.{Writes}
 use Rattle.refusals.proofs.Order.{refused_not_fine, room_fine_iff, then_fine_iff}
 use Rattle.refusals.proofs.Promises.{refused_by, fine_by, said_by, left_written}
-use Rattle.text.specs.declared.put.Written.{Written}
-use Rattle.text.specs.declared.put.Written.TheVariants.{Refused, Bytes}
 use Rattle.text.specs.Said.{Said, paper}
 use Rattle.policy.specs.Output.{verdict_line}
 use Rattle.policy.specs.StepOutput.{text_or}
@@ -46,40 +45,40 @@ front_written bs before {after} {n} e k = (
 
 -- so does what was said
 pub said_front :
-    {bs before after : List ℕ} {n : ℕ} → Said bs before (Bytes n) after → (n ≤ length after) × (take n after ≡ bs)
+    {bs before after : List ℕ} {n : ℕ} → Said bs before (Ok n) after → (n ≤ length after) × (take n after ≡ bs)
 said_front {bs} {before} {after} {n} s =
     let w = fine_by (said_by s) refl in
     let count : n ≡ length bs = (let z = w.1 in cc) in
     front_written bs before (left_written s w.0) count
 
 -- what was said stands within the lent bytes
-pub said_within : {bs before after : List ℕ} (w : Written) → Said bs before w after → FrontWithin w after
-said_within (Refused why) s = tt
-said_within (Bytes n) s = (said_front s).0
+pub said_within : {bs before after : List ℕ} (w : Result ℕ Refusal) → Said bs before w after → FrontWithin w after
+said_within (Err why) s = tt
+said_within (Ok n) s = (said_front s).0
 
 -- where there was room for it, what is handed out is what was said
 pub said_handed :
-    {bs before after : List ℕ} (w : Written) {r : Bool} → Said bs before w after → length bs ≤ length before →
+    {bs before after : List ℕ} (w : Result ℕ Refusal) {r : Bool} → Said bs before w after → length bs ≤ length before →
     (es : List Entry) → FrontHanded w after r es → HandedOut bs r es
-said_handed {bs} {before} (Refused why) s room es h =
+said_handed {bs} {before} (Err why) s room es h =
     refused_not_fine (sym (refused_by (said_by s) {why = why} refl) ∙ (room_fine_iff (length bs) (length before)).1 room)
-said_handed (Bytes n) {r} s room es h = subst (λ (x : List ℕ). HandedOut x r es) (said_front s).1 h
+said_handed (Ok n) {r} s room es h = subst (λ (x : List ℕ). HandedOut x r es) (said_front s).1 h
 
 -- ---- by what was written
 
-module _ {w : Written} (out : List ℕ) where
+module _ {w : Result ℕ Refusal} (out : List ℕ) where
   -- bytes that are within
-  pub front_within : {n : ℕ} → w ≡ Bytes n → FrontWithin w out → n ≤ length out
-  front_within e h = subst (λ (x : Written). FrontWithin x out) e h
+  pub front_within : {n : ℕ} → w ≡ Ok n → FrontWithin w out → n ≤ length out
+  front_within e h = subst (λ (x : Result ℕ Refusal). FrontWithin x out) e h
 
   -- nothing is handed out where there was no room
-  pub front_refused : {why : Refusal} → w ≡ Refused why → FrontHanded w out false []
-  front_refused e = subst (λ (x : Written). FrontHanded x out false []) (sym e) (refl, refl)
+  pub front_refused : {why : Refusal} → w ≡ Err why → FrontHanded w out false []
+  front_refused e = subst (λ (x : Result ℕ Refusal). FrontHanded x out false []) (sym e) (refl, refl)
 
   -- else what stands in front
   pub front_said :
-      {n : ℕ} {r : Bool} → w ≡ Bytes n → (es : List Entry) → HandedOut (take n out) r es → FrontHanded w out r es
-  front_said {r = r} e es h = subst (λ (x : Written). FrontHanded x out r es) (sym e) h
+      {n : ℕ} {r : Bool} → w ≡ Ok n → (es : List Entry) → HandedOut (take n out) r es → FrontHanded w out r es
+  front_said {r = r} e es h = subst (λ (x : Result ℕ Refusal). FrontHanded x out r es) (sym e) h
 
 -- ---- what is due
 
@@ -90,9 +89,9 @@ handed_as {r = r} e h = enters_as h (λ es p. subst (λ (x : List ℕ). HandedOu
 
 -- a text that is written, or its refusal, is what is due by its verdict
 module _
-    (v : Verdict) (s before : List ℕ) {after : List ℕ} {w : Written}
+    (v : Verdict) (s before : List ℕ) {after : List ℕ} {w : Result ℕ Refusal}
     (said : Writes paper (v then room_verdict (length s) (length before)) (length s ∷ []) s before w after) where
-  pub due_text : {n : ℕ} → w ≡ Bytes n → (n ≤ length after) × (take n after ≡ text_or v s)
+  pub due_text : {n : ℕ} → w ≡ Ok n → (n ≤ length after) × (take n after ≡ text_or v s)
   due_text {n} e =
       let fine = fine_by (said_by said) (ap paper e) in
       let count : n ≡ length s = (let z = fine.1 in cc) in
@@ -100,7 +99,7 @@ module _
       (front.0, front.1 ∙ ap (λ (x : Verdict). text_or x s) (sym ((then_fine_iff v _).0 fine.0).0))
 
   pub due_refusal :
-      {why : Refusal} → (v then room_verdict (length s) (length before)) ≡ v → w ≡ Refused why →
+      {why : Refusal} → (v then room_verdict (length s) (length before)) ≡ v → w ≡ Err why →
       verdict_line (verdict.Refused why) ≡ text_or v s
   due_refusal room e =
       ap (λ (x : Verdict). text_or x s) (sym (sym room ∙ refused_by (said_by said) (ap paper e)))

@@ -3,6 +3,7 @@ use Prim.Native.Nat.{ℕ, ◌+◌}
 use native.Mathlib.Omega.{arith}
 use mathlib.Core.Bool.{Bool, true, false}
 use mathlib.Core.Path.{◌≡◌, refl, sym, ap, subst, ◌∙◌}
+use mathlib.Core.Logic.{◌⊎◌, inl, inr}
 use mathlib.Core.List.{List, [], ◌∷◌, ◌++◌}
 use lib.ListN.{length, take}
 use Rattle.facts.proofs.Bools.{clash}
@@ -64,43 +65,65 @@ module _ (answer : List ℕ → List ℕ) where
 
 -- ---- turn after turn
 
+-- the three turns differ
+is_more : Turn → Bool
+is_more (more_to_read g) = true
+is_more (input_ended g) = false
+is_more output_failed = false
+
+is_written : Turn → Bool
+is_written (more_to_read g) = true
+is_written (input_ended g) = true
+is_written output_failed = false
+
+line_in : Gathering → Turn → Gathering
+line_in x (more_to_read g) = g
+line_in x (input_ended g) = g
+line_in x output_failed = x
+
 module _ {answer : List ℕ → List ℕ} where
   -- before the first read
-  pub reached_first : {t : Turn} {g : Gathering} → g ≡ begun → t ≡ more_to_read g → TurnReached answer 0 t []
+  pub reached_first : {g : Gathering} → g ≡ begun → TurnReached answer 0 (more_to_read g) []
   unfolding after
-  reached_first e q = going none_yet (q ∙ ap more_to_read e)
+  reached_first e = going none_yet (ap (λ (x : Gathering). more_to_read x) e)
 
   -- after one read more
   pub reached_next :
-      {k : ℕ} {s t : Turn} → s.more ≡ true → (es ws : List Entry) → TurnReached answer k s es →
-      SomeAnswered answer s.gathering t ws → TurnReached answer (k + 1) t (es ++ ws)
-  reached_next m es ws (over w e q) h = clash m (ap (λ (u : Turn). u.more) q)
-  reached_next m es ws (stopped p w l u q) h = clash m (ap (λ (u : Turn). u.more) q)
-  reached_next {k} {s} {t} m es ws (going {s = bs} w q) h =
-      by ws (subst (λ (g : Gathering). SomeAnswered answer g t ws) (ap (λ (u : Turn). u.gathering) q) h)
+      {k : ℕ} {s t : Turn} {g : Gathering} → s ≡ more_to_read g → (es ws : List Entry) → TurnReached answer k s es →
+      SomeAnswered answer g t ws → TurnReached answer (k + 1) t (es ++ ws)
+  unfolding is_more line_in
+  reached_next m es ws (over w e q) h = clash (ap is_more m) (ap is_more q)
+  reached_next m es ws (stopped p w l u q) h = clash (ap is_more m) (ap is_more q)
+  reached_next {k} {s} {t} {g} m es ws (going {s = bs} w q) h =
+      by ws (subst (λ (g : Gathering). SomeAnswered answer g t ws) (ap (line_in g) (sym m ∙ q)) h)
     where
       by : (ws : List Entry) → SomeAnswered answer (after begun bs) t ws → TurnReached answer (k + 1) t (es ++ ws)
       by ws (at_end e r) = over w e r
       by ws (at_piece p l (all gives r)) =
-          going (and_more p w l gives) (r ∙ ap more_to_read (sym (after_pieces begun bs p)))
+          going (and_more p w l gives) (r ∙ ap (λ (x : Gathering). more_to_read x) (sym (after_pieces begun bs p)))
       by ws (at_piece p l (part u r)) = stopped p w l u r
 
   -- a turn at which a reply was not written is a stop
   pub reached_stop :
-      {k : ℕ} {t : Turn} → t.written ≡ false → (es : List Entry) → TurnReached answer k t es →
+      {k : ℕ} {t : Turn} → t ≡ output_failed → (es : List Entry) → TurnReached answer k t es →
       InputAnswered answer false es
-  reached_stop n es (going w q) = clash (ap (λ (u : Turn). u.written) q) n
-  reached_stop n es (over w e q) = clash (ap (λ (u : Turn). u.written) q) n
+  unfolding is_more is_written
   reached_stop n es (stopped p w l u q) = to_a_stop p w l u
+  reached_stop n es (going w q) = clash (ap is_more q) (ap is_more n)
+  reached_stop n es (over w e q) = clash (ap is_written q) (ap is_written n)
 
   -- at any other the last part is answered, once the input or the reads have ended
   pub reached_last :
-      {k : ℕ} {t : Turn} {r : Bool} → t.written ≡ true → (t.more ≡ true → k ≡ most_reads) → (es ws : List Entry) →
-      TurnReached answer k t es → HandedOut (last_reply t.gathering) r ws → InputAnswered answer r (es ++ ws)
-  reached_last n end es ws (stopped p w l u q) h = clash n (ap (λ (u : Turn). u.written) q)
-  reached_last {r = r} n end es ws (over w e q) h =
-      to_the_end w e
-      (subst (λ (g : Gathering). HandedOut (last_reply g) r ws) (ap (λ (u : Turn). u.gathering) q) h)
-  reached_last {k} {r = r} n end es ws (going {s = bs} w q) h =
-      to_the_most (subst (λ (n : ℕ). Turns answer n bs es) (end (ap (λ (u : Turn). u.more) q)) w)
-      (subst (λ (g : Gathering). HandedOut (last_reply g) r ws) (ap (λ (u : Turn). u.gathering) q) h)
+      {k : ℕ} {t : Turn} {g : Gathering} {r : Bool} → (t ≡ more_to_read g) ⊎ (t ≡ input_ended g) →
+      (t ≡ more_to_read g → k ≡ most_reads) → (es ws : List Entry) → TurnReached answer k t es →
+      HandedOut (last_reply g) r ws → InputAnswered answer r (es ++ ws)
+  unfolding is_more is_written line_in
+  reached_last (inl m) end es ws (over w e q) h = clash (ap is_more m) (ap is_more q)
+  reached_last (inl m) end es ws (stopped p w l u q) h = clash (ap is_more m) (ap is_more q)
+  reached_last {g = g} {r} (inl m) end es ws (going {s = bs} w q) h =
+      to_the_most (subst (λ (n : ℕ). Turns answer n bs es) (end m) w)
+      (subst (λ (x : Gathering). HandedOut (last_reply x) r ws) (ap (line_in g) (sym m ∙ q)) h)
+  reached_last (inr n) end es ws (going w q) h = clash (ap is_more q) (ap is_more n)
+  reached_last (inr n) end es ws (stopped p w l u q) h = clash (ap is_written n) (ap is_written q)
+  reached_last {g = g} {r} (inr n) end es ws (over w e q) h =
+      to_the_end w e (subst (λ (x : Gathering). HandedOut (last_reply x) r ws) (ap (line_in g) (sym n ∙ q)) h)

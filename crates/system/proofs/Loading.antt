@@ -1,6 +1,7 @@
 -- Read after read: the bytes stand in front of the buffer, and the loop ends, since each read brings it nearer to the
 -- buffer's end or gives no bytes. `Head` is the loop's invariant.
 --   left n s    what is left of a buffer of n bytes after the reads s, and one more while more may follow
+use Rattle.policy.specs.Said.{File}
 use Prim.Native.Nat.{ℕ, ◌+◌, ◌-◌, ◌^◌, ◌≤◌, ◌<◌}
 use native.Mathlib.Omega.{arith}
 use mathlib.Core.Bool.{true, false, cond}
@@ -17,7 +18,6 @@ use Rattle.ledger.specs.Reads.{is_open, gave, Gets}
 use Rattle.ledger.specs.Ledger.{Entry, opened, read, closed, enter, Enters}
 use Rattle.ledger.proofs.Entering.{enters_first, enters_last}
 use Rattle.console.proofs.Parts.{rest_of, put_at}
-use Rattle.policy.specs.declared.file.File.{File}
 use Rattle.policy.specs.Files.{text_in}
 use Rattle.system.specs.declared.load.Reads.{Reads}
 use Rattle.system.specs.Files.{ReadFits, no_reads, next_reads, last_reads, more_reads, file_by, file_of, room_left}

@@ -7,7 +7,7 @@ use mathlib.Core.Path.{◌≡◌, refl, sym, ap, ◌∙◌}
 use mathlib.Core.List.{List, [], ◌∷◌, ◌++◌, append_assoc}
 use mathlib.Core.Option.{Option, none}
 use Rattle.refusals.specs.declared.Refusal.{Refusal}
-use Rattle.refusals.specs.declared.Verdict.TheVariants.{Refused}
+use Rattle.refusals.specs.Verdict.{Refused}
 use Rattle.text.specs.Text.{Reading, good, refused}
 use Rattle.console.specs.Gathered.{input_replies}
 use Rattle.console.specs.MissLines.{miss_answer}

@@ -5,8 +5,8 @@ use mathlib.Core.Path.{◌≡◌, subst}
 use mathlib.Core.List.{List, ◌++◌}
 use mathlib.Core.Option.{Option}
 use Rattle.refusals.specs.declared.Refusal.{Refusal}
-use Rattle.refusals.specs.declared.Verdict.{Verdict}
-use Rattle.refusals.specs.declared.Verdict.TheVariants.{Refused}
+use Rattle.refusals.specs.Verdict.{Verdict}
+use Rattle.refusals.specs.Verdict.{Refused}
 use Rattle.text.specs.Text.{good, refused}
 use Rattle.policy.specs.Files.{list_in, tree_of, most_file}
 use Rattle.policy.specs.Output.{serving_verdict, by_list, verdict_line}

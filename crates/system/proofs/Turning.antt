@@ -18,7 +18,6 @@ use Rattle.console.proofs.Parts.{rest_of}
 use Rattle.console.proofs.Pieces.{after_pieces, answers_pieces}
 use Rattle.console.proofs.Short.{some_taken}
 use Rattle.system.specs.declared.serve.Asked.{Asked}
-use Rattle.system.specs.declared.serve.Turn.{Turn}
 use Rattle.system.specs.Handing.{HandedOut, Gives, nothing, and_more}
 use Rattle.system.specs.Turns.{answer_for, more_to_read, output_failed, AllShort}
 use Rattle.system.specs.Turns.{Unfinished, unwritten, unfit, PieceAnswered, all, part}
@@ -59,12 +58,12 @@ due_rest answer from piece g at e =
 module _ {answer : List ℕ → List ℕ} {from : Gathering} {piece : List ℕ} where
   -- at the end the whole piece is answered
   pub head_last :
-      {g : Gathering} {at : ℕ} {r : Turn} → length piece ≤ at → r ≡ more_to_read g → (es : List Entry) →
-      Head answer from piece g at es → PieceAnswered answer from piece r es
-  head_last {at = at} h e es t =
+      {g : Gathering} {at : ℕ} → length piece ≤ at → (es : List Entry) → Head answer from piece g at es →
+      PieceAnswered answer from piece (more_to_read g) es
+  head_last {at = at} h es t =
       let full = take_all at piece h in
       all (subst (λ (x : List ℕ). Gives (answers answer from x) es) full t.gives)
-      (e ∙ ap more_to_read (t.state ∙ ap (after from) full))
+      (ap (λ (x : Gathering). more_to_read x) (t.state ∙ ap (after from) full))
 
   module _
       {g : Gathering} {at : ℕ} {es : List Entry} (t : Head answer from piece g at es) {before new : List ℕ} {r : Fed}
@@ -77,13 +76,13 @@ module _ {answer : List ℕ → List ℕ} {from : Gathering} {piece : List ℕ} 
     -- where there is room for the longest reply, and bytes are left, none are taken only where not all answers are
     -- short
     pub head_unfit :
-        {x : Gathering} {q : Turn} → at < length piece → most_reply ≤ length before → r.taken ≡ 0 →
-        q ≡ output_failed x → PieceAnswered answer from piece q es
-    head_unfit h room none e =
+        at < length piece → most_reply ≤ length before → r.taken ≡ 0 →
+        PieceAnswered answer from piece output_failed es
+    head_unfit h room none =
         part
         (subst (λ (b : List ℕ). Unfinished answer b es) (due_rest answer from piece g at t.state)
         (unfit (answers answer g (drop at piece)) t.gives too_long))
-        e
+        refl
       where
         too_long : AllShort answer → ⊥
         too_long short =
@@ -128,9 +127,9 @@ module _ {answer : List ℕ → List ℕ} {from : Gathering} {piece : List ℕ} 
 
       -- where they were not, the answer is unfinished
       pub head_unwritten :
-          {b : Bool} {x : Gathering} {q : Turn} → b ≡ false → q ≡ output_failed x → (ws : List Entry) →
-          HandedOut (take r.filled new) b ws → PieceAnswered answer from piece q (es ++ ws)
-      head_unwritten u e ws h =
+          {b : Bool} → b ≡ false → (ws : List Entry) → HandedOut (take r.filled new) b ws →
+          PieceAnswered answer from piece output_failed (es ++ ws)
+      head_unwritten u ws h =
           let k = r.taken in
           let rest = answers answer (after g (take k (drop at piece))) (drop k (drop at piece)) in
           part
@@ -140,7 +139,7 @@ module _ {answer : List ℕ → List ℕ} {from : Gathering} {piece : List ℕ} 
           sym (answers_pieces answer g (take k (drop at piece)) (drop k (drop at piece))) ∙
           ap (answers answer g) (take-append-drop k (drop at piece))) ∙ due_rest answer from piece g at t.state)
           (unwritten rest t.gives (as_said u h)))
-          e
+          refl
 
 -- ---- by what is asked
 

@@ -12,6 +12,8 @@
 --   ReadPast fd g es  one read of one byte, which gave g
 --   FileLoaded n path t es    the file at the path is opened, read to its end and closed, and t is its text; or it is
 --                     not opened, and has none
+use Rattle.policy.specs.Said.{File}
+use Rattle.policy.specs.Said as file
 use Rattle.std.specs.Prelude.{ℕ, ◌+◌, ◌-◌, ◌^◌, ◌≤◌, ◌<◌, max, Bool, true, false, ◌≡◌, List, [], ◌∷◌, ◌++◌, length}
 use Rattle.std.proofs.Math.Option.{Option, none, some}
 use Rattle.ledger.specs.declared.input.Descriptor.{Descriptor}
@@ -19,8 +21,6 @@ use Rattle.ledger.specs.declared.input.Got.{Got}
 use Rattle.ledger.specs.declared.input.Got.TheVariants.{Failed, Ended, Bytes}
 use Rattle.ledger.specs.Reads.{is_open, gave, Gets}
 use Rattle.ledger.specs.Ledger.{Entry, opened, read, closed}
-use Rattle.policy.specs.declared.file.File.{File}
-use Rattle.policy.specs.declared.file.File.TheVariants as file
 use Rattle.system.specs.declared.load.Reads.{Reads}
 
 abbrev pub ReadFits : ℕ → Got → Type 0

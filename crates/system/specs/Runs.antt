@@ -17,10 +17,11 @@
 --   WholeTaken, FirstTaken m, NextTaken m    by the rule file, the tree at once, a first step, or a step on
 --   CompileRan r es       a run of the compiler: at once, where there is no argument; one step of as many nodes as the
 --                         first argument says; or one from the part in the file that the second names
+use Rattle.system.specs.Said.{Number, Wrong}
 use Rattle.std.specs.Prelude.{ℕ, ◌≤◌, ◌<◌, Bool, true, false, ◌≡◌, List, [], ◌∷◌, ◌++◌}
 use Rattle.std.proofs.Math.Option.{Option}
 use Rattle.refusals.specs.declared.Refusal.{Refusal}
-use Rattle.refusals.specs.declared.Verdict.TheVariants.{Fine, Refused}
+use Rattle.refusals.specs.Verdict.{Fine, Refused}
 use Rattle.text.specs.Text.{good, refused}
 use Rattle.tree_file.specs.TreeText.{tree}
 use Rattle.console.specs.MissLines.{miss_answer}
@@ -30,7 +31,6 @@ use Rattle.policy.specs.Compiled.{largest_build, built_text}
 use Rattle.policy.specs.Steps.{on_verdict, on_text}
 use Rattle.policy.specs.StepOutput.{part_verdict, text_or, first_step}
 use Rattle.ledger.specs.Ledger.{Entry, counted, argued}
-use Rattle.system.specs.declared.arguments.Told.TheVariants.{Wrong, Number}
 use Rattle.system.specs.TellsNumber.{TellsNumber}
 use Rattle.system.specs.Files.{FileLoaded}
 use Rattle.system.specs.Handing.{HandedOut}

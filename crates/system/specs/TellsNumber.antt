@@ -2,13 +2,12 @@
 --   number_in l        the number of the line l, which has a tab and a number; wrong where it is no such line
 --   most_digits       the most digits of a number of 32 bits
 --   TellsNumber r es  the first argument is asked for, of at most so many bytes, and r is its number
+use Rattle.system.specs.Said.{Number, Wrong, Told}
 use Rattle.std.specs.Prelude.{ℕ, ◌≡◌, List, [], ◌∷◌, get_or}
 use Rattle.std.proofs.Math.Option.{Option, none, some}
 use Rattle.text.specs.Words.{tab, one_tab}
 use Rattle.text.specs.Line.{read_line}
 use Rattle.ledger.specs.Ledger.{Entry, argued}
-use Rattle.system.specs.declared.arguments.Told.{Told}
-use Rattle.system.specs.declared.arguments.Told.TheVariants.{Wrong, Number}
 
 abbrev pub on_told : Option (List ℕ) → Told
 on_told none = Wrong

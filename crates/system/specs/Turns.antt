@@ -2,7 +2,7 @@
 --   answer_for a .. h  the line that answers header h, a being what is asked: which rules match, or why one rule misses
 --   more_to_read g     the line that is being gathered is g, and more is to be read
 --   input_ended g      no more is to be read
---   output_failed g    a reply was not written, and no more is to be read
+--   output_failed      a reply was not written, and no more is to be read
 --   AllShort answer    no answer to a header is longer than the longest reply of a good list
 --   most_piece         the most bytes that are read at once
 --   most_reads         the most reads
@@ -18,7 +18,7 @@
 --   InputAnswered answer r es    the input is read to its end, or to the most reads, and answered, and then the last
 --                      part is; r says whether all that was due was written. Or it stops at an answer that is
 --                      unfinished
-use Rattle.std.specs.Prelude.{ℕ, ◌+◌, ◌≤◌, ◌<◌, Bool, true, false, ◌≡◌, List, [], ◌∷◌, ◌++◌, length, take}
+use Rattle.std.specs.Prelude.{ℕ, ◌+◌, ◌≤◌, ◌<◌, Bool, false, ◌≡◌, List, [], ◌∷◌, ◌++◌, length, take}
 use Rattle.ledger.specs.declared.input.Got.{Got}
 use Rattle.ledger.specs.declared.input.Got.TheVariants.{Failed, Ended, Bytes}
 use Rattle.ledger.specs.Ledger.{Entry, read, standard_input}
@@ -30,20 +30,21 @@ use Rattle.console.specs.Gathered.{begun, after, answers, last_reply}
 use Rattle.system.specs.declared.serve.Asked.{Asked}
 use Rattle.system.specs.declared.serve.Asked.TheVariants as asked
 use Rattle.system.specs.declared.serve.Turn.{Turn}
+use Rattle.system.specs.declared.serve.Turn.TheVariants.{Going, Over, Stopped}
 use Rattle.system.specs.Handing.{HandedOut, Gives}
 
 unfoldable pub answer_for : Asked → List ℕ → List ℕ → List ℕ → List ℕ → List ℕ
 answer_for (asked.Matches accepted) rs nodes pool = answer_to accepted rs nodes pool
 answer_for (asked.Misses n) rs nodes pool = miss_answer rs n
 
-abbrev pub more_to_read : Gathering → Turn
-more_to_read g = record { more = true; written = true; gathering = g }
+pattern abbrev pub more_to_read : Gathering → Turn
+more_to_read g = Going g
 
-abbrev pub input_ended : Gathering → Turn
-input_ended g = record { more = false; written = true; gathering = g }
+pattern abbrev pub input_ended : Gathering → Turn
+input_ended g = Over g
 
-abbrev pub output_failed : Gathering → Turn
-output_failed g = record { more = false; written = false; gathering = g }
+pattern abbrev pub output_failed : Turn
+output_failed = Stopped
 
 abbrev pub AllShort : (List ℕ → List ℕ) → Type 0
 AllShort answer = (h : List ℕ) → length (answer h) ≤ most_reply
@@ -73,8 +74,7 @@ module _ (answer : List ℕ → List ℕ) where
   pub data PieceAnswered (g : Gathering) (p : List ℕ) (r : Turn) : List Entry → Type 0 where
     all : {es : List Entry} → Gives (answers answer g p) es → r ≡ more_to_read (after g p) → PieceAnswered g p r es
     part :
-        {x : Gathering} {es : List Entry} → Unfinished (answers answer g p) es → r ≡ output_failed x →
-        PieceAnswered g p r es
+        {es : List Entry} → Unfinished (answers answer g p) es → r ≡ output_failed → PieceAnswered g p r es
 
   -- where a read gave no bytes, no more is to be read, and the line is as it was
   abbrev pub GotAnswered : Gathering → Got → List ℕ → Turn → List Entry → Type 0
@@ -103,9 +103,9 @@ module _ (answer : List ℕ → List ℕ) where
         {k : ℕ} {t : Turn} {s : List ℕ} {es : List Entry} {e : Got} → Turns k s es → Ends e →
         t ≡ input_ended (after begun s) → TurnReached (k + 1) t (es ++ (read_input e [] ∷ []))
     stopped :
-        {k : ℕ} {t : Turn} {x : Gathering} {s : List ℕ} (p : List ℕ) {es ws : List Entry} → Turns k s es →
+        {k : ℕ} {t : Turn} {s : List ℕ} (p : List ℕ) {es ws : List Entry} → Turns k s es →
         0 < length p →
-        Unfinished (answers answer (after begun s) p) ws → t ≡ output_failed x →
+        Unfinished (answers answer (after begun s) p) ws → t ≡ output_failed →
         TurnReached (k + 1) t (es ++ (read_input (Bytes (length p)) p ∷ ws))
 
   pub data InputAnswered : Bool → List Entry → Type 0 where

@@ -5,21 +5,14 @@ ghost use Rattle.system.specs.TellsNumber.{number_in, TellsNumber};
 
 use ledger::arguments::argument;
 use ledger::handle::Handle;
-use text::cursor::{Cursor, Step};
+use text::cursor::Cursor;
 use text::words::{ONE_TAB, TAB};
 
 // A tab, and a number of 32 bits, which has at most ten digits.
 const MOST_LINE: usize = 11;
 
-// A number that was told.
-#[derive(Clone, Copy)]
-pub enum Told {
-    Wrong,
-    Number(u32),
-}
-
 // The number that the first argument says. An argument that is too long counts as none.
-pub fn number_told(ledger: &mut u64, handle: Handle) -> Told
+pub fn number_told(ledger: &mut u64, handle: Handle) -> Option<u32>
     ensures { Enters (TellsNumber result) ledger.old ledger.new }
 {
     let mut line = [TAB; MOST_LINE];
@@ -29,15 +22,12 @@ pub fn number_told(ledger: &mut u64, handle: Handle) -> Told
 }
 
 // The number of a line that has a tab and a number.
-fn number_in(line: &[u8]) -> Told
+fn number_in(line: &[u8]) -> Option<u32>
     ensures { result ≡ number_in line.now }
 {
     let here = Cursor { at: 0, lines: 0 };
-    let read = here.whole(line, &ONE_TAB[..0], &ONE_TAB);
-    let said = read.said;
-    let values = read.values;
-    match said {
-        Step::Refused(_) => Told::Wrong,
-        Step::Next(_) => Told::Number(values[0]),
-    }
+    let Ok(read) = here.whole(line, &ONE_TAB[..0], &ONE_TAB) else {
+        return None;
+    };
+    Some(read.values[0])
 }

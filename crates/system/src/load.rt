@@ -8,7 +8,6 @@ ghost use Rattle.system.specs.Files.{ReadToEnd, ReadPast, FileLoaded};
 
 use ledger::handle::Handle;
 use ledger::input::{Got, Source, close_file, open_file, read_some};
-use policy::file::File;
 
 // The file with the list of rules, in the folder where a program is started.
 pub const RULES_FILE: [u8; 9] = *b"rules.txt";
@@ -21,14 +20,14 @@ pub struct Reads {
 }
 
 // Reads the file at `path` to its end, and closes it. Its bytes stand in front of the buffer.
-pub fn load(ledger: &mut u64, handle: Handle, path: &[u8], buffer: &mut [u8]) -> File
+pub fn load(ledger: &mut u64, handle: Handle, path: &[u8], buffer: &mut [u8]) -> Option<usize>
     ensures { Enters
         (FileLoaded (length buffer.new) path.now (text_in result buffer.new))
         ledger.old ledger.new }
 {
     let from = open_file(ledger, handle, path);
     if !from.descriptor().is_open() {
-        return File::NotRead;
+        return None;
     }
     let reads = read_on(ledger, &from, buffer);
     close_file(ledger, from);
@@ -42,6 +41,7 @@ fn read_on(ledger: &mut u64, from: &Source, buffer: &mut [u8]) -> Reads
         ledger.old ledger.new }
 {
     let mut reads = Reads::start();
+    // A read gives as many bytes as the system has, so that no count of reads is known.
     while reads.done < buffer.len() && reads.more() {
         let done = reads.done;
         reads = reads.next(read_some(ledger, from, &mut buffer[done..]));
@@ -110,14 +110,14 @@ impl Reads {
     }
 
     // What the file is: whole only where the last read gave the end. Bytes that follow a full buffer are too many.
-    fn file(self) -> File
+    fn file(self) -> Option<usize>
         ensures { result ≡ file_of self }
     {
         let last = self.last;
         match last {
-            Got::Failed => File::NotRead,
-            Got::Ended => File::Bytes { count: self.done },
-            Got::Bytes { count: _ } => File::NotRead,
+            Got::Failed => None,
+            Got::Ended => Some(self.done),
+            Got::Bytes { count: _ } => None,
         }
     }
 }

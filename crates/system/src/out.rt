@@ -9,8 +9,7 @@ use console::gather::Gathering;
 use ledger::handle::Handle;
 use ledger::output::write_out;
 use policy::line::verdict_line;
-use refusals::Verdict;
-use text::put::Written;
+use refusals::Refusal;
 
 // The most bytes of the line of a refusal: `refused`, three numbers of at most 20 digits, their tabs and the newline.
 pub const MOST_REFUSED: usize = 71;
@@ -19,14 +18,14 @@ pub const MOST_REFUSED: usize = 71;
 pub fn say(ledger: &mut u64, handle: Handle, bytes: &[u8]) -> bool
     ensures { Enters (HandedOut bytes.now result) ledger.old ledger.new }
 {
-    if bytes.len() == 0 {
+    if bytes.is_empty() {
         return true;
     }
     write_out(ledger, handle, bytes)
 }
 
 // Writes the line of a refusal, or nothing where the verdict is fine; and answers whether it was written.
-pub fn say_verdict(ledger: &mut u64, handle: Handle, verdict: Verdict) -> bool
+pub fn say_verdict(ledger: &mut u64, handle: Handle, verdict: Result<(), Refusal>) -> bool
     ensures { Enters (HandedOut (verdict_line verdict) result) ledger.old ledger.new }
 {
     let mut out = [0u8; MOST_REFUSED];
@@ -44,12 +43,12 @@ pub(crate) fn say_last(ledger: &mut u64, handle: Handle, gathering: Gathering) -
 }
 
 // Writes what stands in front of `out`; nothing where it found no room there.
-fn say_written(ledger: &mut u64, handle: Handle, said: Written, out: &[u8]) -> bool
+fn say_written(ledger: &mut u64, handle: Handle, said: Result<usize, Refusal>, out: &[u8]) -> bool
     requires { FrontWithin said out.now }
     ensures { Enters (FrontHanded said out.now result) ledger.old ledger.new }
 {
     match said {
-        Written::Refused(_) => false,
-        Written::Bytes { bytes } => say(ledger, handle, &out[..bytes]),
+        Err(_) => false,
+        Ok(bytes) => say(ledger, handle, &out[..bytes]),
     }
 }

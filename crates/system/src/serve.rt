@@ -6,7 +6,7 @@ ghost use Rattle.console.specs.MissLines.{miss_answer};
 ghost use Rattle.console.specs.Feeding.{IsFed};
 ghost use Rattle.ledger.specs.Reads.{Gets};
 ghost use Rattle.ledger.specs.Ledger.{Enters};
-ghost use Rattle.system.specs.Turns.{answer_for, more_to_read, input_ended, output_failed, most_piece};
+ghost use Rattle.system.specs.Turns.{answer_for, most_piece};
 ghost use Rattle.system.specs.Turns.{PieceAnswered, GotAnswered, SomeAnswered, InputAnswered};
 
 use crate::out::{say, say_last};
@@ -25,12 +25,12 @@ pub(crate) enum Asked {
     Misses { rule: usize },
 }
 
-// After some input: whether more is to be read, whether all replies were written, and the line that is being gathered.
+// After some input: more is to be read, or no more; and the line that is being gathered. Or a reply was not written.
 #[derive(Clone, Copy)]
-pub(crate) struct Turn {
-    pub more: bool,
-    pub written: bool,
-    pub gathering: Gathering,
+pub(crate) enum Turn {
+    Going(Gathering),
+    Over(Gathering),
+    Stopped,
 }
 
 // Answers which rules match, by the tree if it was accepted; and answers whether all that was due was written.
@@ -72,7 +72,7 @@ pub fn serve_why(ledger: &mut u64, handle: Handle, rules: &[u32], rule: usize) -
 }
 
 // Answers standard input to its end, and then the part that has no newline. Output that cannot be written stops it.
-// Nothing proves that input ends, so the reads are counted down, from a number that no run uses up.
+// Nothing proves that input ends, so the reads are counted, up to a number that no run uses up.
 fn answer_lines(
     ledger: &mut u64,
     handle: Handle,
@@ -87,19 +87,19 @@ fn answer_lines(
 {
     let mut piece = [0u8; PIECE];
     let mut out = [0u8; PIECE];
-    let mut turn = more_to_read(Gathering::start());
-    let mut reads = u64::MAX;
-    while reads > 0 && turn.more {
+    let mut turn = Turn::Going(Gathering::start());
+    for _ in 0..u64::MAX {
+        let Turn::Going(from) = turn else {
+            break;
+        };
         turn = answer_some(
-            ledger, handle, rules, nodes, pool, asked, turn, &mut piece, &mut out,
+            ledger, handle, rules, nodes, pool, asked, from, &mut piece, &mut out,
         );
-        reads -= 1;
     }
-    let last = turn.gathering;
-    if !turn.written {
-        return false;
+    match turn {
+        Turn::Going(last) | Turn::Over(last) => say_last(ledger, handle, last),
+        Turn::Stopped => false,
     }
-    say_last(ledger, handle, last)
 }
 
 // Reads once, and answers what came.
@@ -110,7 +110,7 @@ fn answer_some(
     nodes: &[u32],
     pool: &[u32],
     asked: Asked,
-    turn: Turn,
+    from: Gathering,
     piece: &mut [u8],
     out: &mut [u8],
 ) -> Turn
@@ -118,12 +118,12 @@ fn answer_some(
     requires piece_len { length piece.old ≡ most_piece }
     ensures { Enters
         (SomeAnswered (answer_for asked rules.now nodes.now pool.now)
-        turn.gathering result) ledger.old ledger.new }
+        from result) ledger.old ledger.new }
 {
     let input = standard_input(handle);
     let got = read_some(ledger, &input, piece);
     answer_got(
-        ledger, handle, rules, nodes, pool, asked, turn, got, piece, out,
+        ledger, handle, rules, nodes, pool, asked, from, got, piece, out,
     )
 }
 
@@ -135,7 +135,7 @@ fn answer_got(
     nodes: &[u32],
     pool: &[u32],
     asked: Asked,
-    turn: Turn,
+    from: Gathering,
     got: Got,
     piece: &[u8],
     out: &mut [u8],
@@ -144,12 +144,11 @@ fn answer_got(
     requires gets { Gets piece.now got }
     ensures { Enters
         (GotAnswered (answer_for asked rules.now nodes.now pool.now)
-        turn.gathering got piece.now result) ledger.old ledger.new }
+        from got piece.now result) ledger.old ledger.new }
 {
-    let from = turn.gathering;
     match got {
-        Got::Failed => input_ended(from),
-        Got::Ended => input_ended(from),
+        Got::Failed => Turn::Over(from),
+        Got::Ended => Turn::Over(from),
         Got::Bytes { count } => answer_piece(
             ledger,
             handle,
@@ -184,19 +183,20 @@ fn answer_piece(
 {
     let mut gathering = from;
     let mut at = 0;
+    // A turn takes as many bytes as their replies find room for, so that no count of turns is known.
     while at < piece.len() {
         let fed = feed_asked(rules, nodes, pool, asked, gathering, &piece[at..], out);
         if fed.taken == 0 {
-            return output_failed(from);
+            return Turn::Stopped;
         }
         let filled = fed.filled;
         if !say(ledger, handle, &out[..filled]) {
-            return output_failed(from);
+            return Turn::Stopped;
         }
         gathering = fed.gathering;
-        at = at + fed.taken;
+        at += fed.taken;
     }
-    more_to_read(gathering)
+    Turn::Going(gathering)
 }
 
 // The replies to a piece of input, by what is asked.
@@ -216,38 +216,5 @@ fn feed_asked(
     match asked {
         Asked::Matches { accepted } => feed(rules, nodes, pool, accepted, from, piece, out),
         Asked::Misses { rule } => feed_why(rules, rule, from, piece, out),
-    }
-}
-
-// More is to be read.
-fn more_to_read(gathering: Gathering) -> Turn
-    ensures { result ≡ more_to_read gathering }
-{
-    Turn {
-        more: true,
-        written: true,
-        gathering,
-    }
-}
-
-// No more is to be read.
-fn input_ended(gathering: Gathering) -> Turn
-    ensures { result ≡ input_ended gathering }
-{
-    Turn {
-        more: false,
-        written: true,
-        gathering,
-    }
-}
-
-// A reply was not written.
-fn output_failed(gathering: Gathering) -> Turn
-    ensures { result ≡ output_failed gathering }
-{
-    Turn {
-        more: false,
-        written: false,
-        gathering,
     }
 }

@@ -1,16 +1,16 @@
 -- What the answers for a word and for numbers behind separators tell of what was read, and the loop over several.
+use Rattle.std.specs.Prelude.{Err, Ok}
 use Prim.Native.Nat.{ℕ, ◌+◌, ◌-◌, ◌<◌, ◌≤◌}
 use native.Mathlib.Omega.{arith}
 use mathlib.Core.Path.{◌≡◌, refl, sym, ap, ◌∙◌}
 use mathlib.Core.List.{List, [], ◌∷◌, ◌++◌}
 use lib.ListN.{length, get_or, drop, set, replicate, length-append, length-drop, drop_of_length-le}
-use lib.Seq.{length-sets, drop-drop, drop-append_seam}
+use lib.Seq.{drop-drop, drop-append_seam}
 use Rattle.facts.proofs.Cases.{WithinOrOver, within_or_over, at_most, over}
 use Rattle.facts.proofs.Steps.{drop_step, drop_end}
 use Rattle.facts.proofs.Setting.{sets_append}
 use Rattle.refusals.specs.declared.Refusal.{Refusal}
 use Rattle.text.specs.declared.cursor.Cursor.{Cursor}
-use Rattle.text.specs.declared.cursor.Number.TheVariants as number
 use Rattle.text.specs.Words.{most_fields}
 use Rattle.text.specs.Places.{place_in}
 use Rattle.text.specs.Numbers.{Got, got, bad, digits_of}
@@ -50,29 +50,30 @@ pub record NumberRead (s : List ℕ) (c : Cursor) (m v : ℕ) (d : Cursor) : Typ
 module _ (s : List ℕ) (c : Cursor) (m : ℕ) where
   value_by :
       {v : ℕ} {d : Cursor} (g : Got ℕ) → read_behind m (drop c.at s) ≡ g →
-      on_number s c.lines g ≡ number.Value v d → NumberRead s c m v d
+      on_number s c.lines g ≡ Ok (v, d) → NumberRead s c m v d
   value_by {v} {d} (got u rest) e h =
-      let eu : u ≡ v = cc in
-      let ed : cursor_at (place_in s rest) c.lines ≡ d = cc in
+      let same : (u, cursor_at (place_in s rest) c.lines) ≡ (v, d) = cc in
+      let eu : u ≡ v = ap (λ (x : ℕ × Cursor). x.0) same in
+      let ed : cursor_at (place_in s rest) c.lines ≡ d = ap (λ (x : ℕ × Cursor). x.1) same in
       let there : drop (place_in s rest) s ≡ rest =
       left_at s (m ∷ digits_of u) rest c.at (behind_exact m (drop c.at s) u rest e).0 in
       rw (← ed, ← eu) (record { read = e ∙ ap (got u) (sym there); within = left_in s rest; lines = refl })
   value_by bad e h = let z : ◌≡◌ {A = ℕ} 0 1 = cc in absurd (omega arith)
 
   -- a value that is answered was read
-  pub behind_value : {v : ℕ} {d : Cursor} → behind_at s c m ≡ number.Value v d → NumberRead s c m v d
+  pub behind_value : {v : ℕ} {d : Cursor} → behind_at s c m ≡ Ok (v, d) → NumberRead s c m v d
   unfolding behind_at
   behind_value h = value_by (read_behind m (drop c.at s)) refl h
 
   refused_by :
-      {why : Refusal} (g : Got ℕ) → on_number s c.lines g ≡ number.Refused why →
+      {why : Refusal} (g : Got ℕ) → on_number s c.lines g ≡ Err why →
       (g ≡ bad) × (why ≡ wrong_at c.lines)
   refused_by (got u rest) h = let z : ◌≡◌ {A = ℕ} 0 1 = cc in absurd (omega arith)
   refused_by bad h = (refl, cc)
 
   -- where a refusal is answered nothing was read, and it is that of the line
   pub behind_refused :
-      {why : Refusal} → behind_at s c m ≡ number.Refused why →
+      {why : Refusal} → behind_at s c m ≡ Err why →
       (read_behind m (drop c.at s) ≡ bad) × (why ≡ wrong_at c.lines)
   unfolding behind_at
   behind_refused h = refused_by (read_behind m (drop c.at s)) h
@@ -87,11 +88,6 @@ pub record MarksLeft (s ms : List ℕ) (start i at : ℕ) (values : List ℕ) : 
   pub held : values ≡ padded so_far
   pub within : at ≤ length s
   pub upto : i ≤ length ms
-
--- at the first there are none
-pub marks_first : (s ms : List ℕ) (start : ℕ) → start ≤ length s → MarksLeft s ms start 0 start (replicate most_fields 0)
-marks_first s ms start h =
-    record { so_far = []; left = refl; size = refl; held = refl; within = h; upto = omega arith }
 
 module _
     {s ms : List ℕ} {start i at : ℕ} {values : List ℕ} (k : MarksLeft s ms start i at values) (l : i < length ms) where
@@ -120,11 +116,6 @@ module _
   pub marks_bad : read_behind (get_or ms i 0) (drop at s) ≡ bad → fields_from [] ms (drop start s) ≡ bad
   unfolding fields_from
   marks_bad e = k.left ∙ rw (drop_step ms i l, e)
-
--- the values have their places
-pub marks_size :
-    {s ms : List ℕ} {start i at : ℕ} {values : List ℕ} → MarksLeft s ms start i at values → length values ≡ most_fields
-marks_size k = ap length k.held ∙ length-sets (replicate most_fields 0) 0 k.so_far
 
 -- at the last separator all are read
 pub marks_last :

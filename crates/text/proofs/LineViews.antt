@@ -1,4 +1,5 @@
 -- What the answers at the end of a line and for all that is left of one tell of what was read.
+use Rattle.std.specs.Prelude.{Err, Ok}
 use Prim.Native.Nat.{ℕ, ◌+◌, ◌<◌, ◌≤◌}
 use native.Mathlib.Omega.{arith}
 use mathlib.Core.Bool.{Bool, true, false, cond}
@@ -11,13 +12,12 @@ use borrow.Author.Tests.{ltb-true, ltb-false}
 use Rattle.facts.proofs.Steps.{drop_step, drop_end}
 use Rattle.refusals.specs.declared.Refusal.{Refusal}
 use Rattle.text.specs.declared.cursor.Cursor.{Cursor}
-use Rattle.text.specs.declared.cursor.Step.TheVariants.{Next, Refused}
 use Rattle.text.specs.declared.cursor.Fields.{Fields}
 use Rattle.text.specs.Words.{most_fields}
 use Rattle.text.specs.Places.{following}
 use Rattle.text.specs.Numbers.{bad}
 use Rattle.text.specs.Line.{read_fields, read_line}
-use Rattle.text.specs.Cursors.{wrong_at, cursor_at, padded, no_fields, on_line, end_at, whole_at}
+use Rattle.text.specs.Cursors.{wrong_at, cursor_at, padded, on_line, end_at, whole_at}
 use Rattle.text.proofs.Lines.{line_exact}
 use Rattle.text.proofs.Answers.{padded_at}
 use Rattle.text.proofs.Views.{next_refused, FieldsTaken}
@@ -27,27 +27,27 @@ use Rattle.text.proofs.Views.{next_refused, FieldsTaken}
 module _ (s : List ℕ) (c : Cursor) where
   end_by :
       {d : Cursor} (t : Bool) → ltb c.at (length s) ≡ t →
-      cond t (Refused (wrong_at c.lines)) (Next (cursor_at (length s + 1) (following c.lines))) ≡ Next d →
+      cond t (Err (wrong_at c.lines)) (Ok (cursor_at (length s + 1) (following c.lines))) ≡ Ok d →
       (length s ≤ c.at) × (d ≡ cursor_at (length s + 1) (following c.lines))
   end_by true e h = next_refused (sym h)
   end_by false e h = (ltb-false c.at (length s) e, cc)
 
   -- where the next line is answered nothing was left
   pub end_next :
-      {d : Cursor} → end_at s c ≡ Next d →
+      {d : Cursor} → end_at s c ≡ Ok d →
       (length s ≤ c.at) × (d ≡ cursor_at (length s + 1) (following c.lines))
   unfolding end_at
   end_next h = end_by (ltb c.at (length s)) refl h
 
   more_by :
       {why : Refusal} (t : Bool) → ltb c.at (length s) ≡ t →
-      cond t (Refused (wrong_at c.lines)) (Next (cursor_at (length s + 1) (following c.lines))) ≡ Refused why →
+      cond t (Err (wrong_at c.lines)) (Ok (cursor_at (length s + 1) (following c.lines))) ≡ Err why →
       (c.at < length s) × (why ≡ wrong_at c.lines)
   more_by true e h = (ltb-true c.at (length s) e, cc)
   more_by false e h = next_refused h
 
   -- where a refusal is answered something was left, and it is that of the line
-  pub end_refused : {why : Refusal} → end_at s c ≡ Refused why → (c.at < length s) × (why ≡ wrong_at c.lines)
+  pub end_refused : {why : Refusal} → end_at s c ≡ Err why → (c.at < length s) × (why ≡ wrong_at c.lines)
   unfolding end_at
   end_refused h = more_by (ltb c.at (length s)) refl h
 
@@ -70,33 +70,31 @@ number_at w ms l {vs} e h few j b =
 
 module _ (p k : ℕ) where
   pub held_by :
-      {r : Fields} {d : Cursor} (o : Option (List ℕ)) → r ≡ on_line p k o → r.said ≡ Next d →
-      LineHeld p k o r.values d
-  held_by {r} {d} (some vs) f h =
-      let z : Next (cursor_at p (following k)) ≡ Next d = sym (ap (λ (x : Fields). x.said) f) ∙ h in
-      record { vs = vs; read = refl; holds = ap (λ (x : Fields). x.values) f; there = cc }
-  held_by none f h = next_refused (sym h ∙ ap (λ (x : Fields). x.said) f)
+      {r : Fields} (o : Option (List ℕ)) → on_line p k o ≡ Ok r → LineHeld p k o r.values r.next
+  held_by {r} (some vs) h =
+      let er : r ≡ record { values = padded vs; next = cursor_at p (following k) } = cc in
+      record { vs = vs; read = refl; holds = ap (λ (x : Fields). x.values) er; there = ap (λ (x : Fields). x.next) er }
+  held_by none h = next_refused (sym h)
 
   pub no_line_by :
-      {r : Fields} {why : Refusal} (o : Option (List ℕ)) → r ≡ on_line p k o → r.said ≡ Refused why →
-      (o ≡ none) × (why ≡ wrong_at k)
-  no_line_by (some vs) f h = next_refused (sym (ap (λ (x : Fields). x.said) f) ∙ h)
-  no_line_by {r} {why} none f h =
-      let z : Refused (wrong_at k) ≡ Refused why = sym (ap (λ (x : Fields). x.said) f) ∙ h in (refl, cc)
+      {why : Refusal} (o : Option (List ℕ)) → on_line p k o ≡ Err why → (o ≡ none) × (why ≡ wrong_at k)
+  no_line_by (some vs) h = next_refused h
+  no_line_by none h = (refl, cc)
 
-module _ (s : List ℕ) (c : Cursor) (w ms : List ℕ) {r : Fields} (f : r ≡ whole_at s c w ms) where
+module _ (s : List ℕ) (c : Cursor) (w ms : List ℕ) where
   -- a line that is answered is all that was left
   pub whole_next :
-      {d : Cursor} → r.said ≡ Next d →
-      LineHeld (length s + 1) c.lines (read_line w ms (drop c.at s)) r.values d
+      {r : Fields} → whole_at s c w ms ≡ Ok r →
+      LineHeld (length s + 1) c.lines (read_line w ms (drop c.at s)) r.values r.next
   unfolding whole_at
-  whole_next h = held_by (length s + 1) c.lines (read_line w ms (drop c.at s)) f h
+  whole_next h = held_by (length s + 1) c.lines (read_line w ms (drop c.at s)) h
 
   -- where a refusal is answered, what was left is no line of the format, and it is that of the line
   pub whole_refused :
-      {why : Refusal} → r.said ≡ Refused why → (read_line w ms (drop c.at s) ≡ none) × (why ≡ wrong_at c.lines)
+      {why : Refusal} → whole_at s c w ms ≡ Err why →
+      (read_line w ms (drop c.at s) ≡ none) × (why ≡ wrong_at c.lines)
   unfolding whole_at
-  whole_refused h = no_line_by (length s + 1) c.lines (read_line w ms (drop c.at s)) f h
+  whole_refused h = no_line_by (length s + 1) c.lines (read_line w ms (drop c.at s)) h
 
 -- ---- all that is left, from the fields and the end
 
@@ -104,19 +102,19 @@ module _ (s : List ℕ) (c : Cursor) (w ms : List ℕ) where
   -- no fields, no line
   pub whole_no_fields :
       {why : Refusal} → read_fields w ms (drop c.at s) ≡ bad → why ≡ wrong_at c.lines →
-      no_fields why ≡ whole_at s c w ms
+      Err why ≡ whole_at s c w ms
   unfolding whole_at read_line
   whole_no_fields e f = rw (e, f)
 
   module _ {values : List ℕ} {d : Cursor} (k : FieldsTaken s c w ms values d) where
     -- more than the fields is no line
-    pub whole_more : {why : Refusal} → d.at < length s → why ≡ wrong_at d.lines → no_fields why ≡ whole_at s c w ms
+    pub whole_more : {why : Refusal} → d.at < length s → why ≡ wrong_at d.lines → Err why ≡ whole_at s c w ms
     unfolding whole_at read_line
     whole_more l f = rw (k.read, drop_step s d.at l, f, k.lines)
 
     -- the fields alone are the line
     pub whole_fields :
         {e : Cursor} → length s ≤ d.at → e ≡ cursor_at (length s + 1) (following d.lines) →
-        record { said = Next e; values = values } ≡ whole_at s c w ms
+        Ok (record { values = values; next = e }) ≡ whole_at s c w ms
     unfolding whole_at read_line
     whole_fields l f = rw (k.read, drop_end s d.at l, f, k.lines, k.holds)

@@ -1,4 +1,5 @@
 -- What the answers for the next newline and for the next line tell of the text.
+use Rattle.std.specs.Prelude.{Err, Ok}
 use Prim.Native.Nat.{ℕ, suc, ◌+◌, ◌-◌, ◌<◌, ◌≤◌}
 use native.Mathlib.Omega.{arith}
 use mathlib.Core.Path.{◌≡◌, refl, sym, ap, ◌∙◌}
@@ -9,15 +10,13 @@ use lib.Seq.{take-add, take-append_seam, drop-append_seam, drop-drop, drop_at, l
 use Rattle.refusals.specs.declared.Refusal.{Refusal}
 use Rattle.refusals.specs.declared.Refusal.TheVariants.{TextStops}
 use Rattle.text.specs.declared.cursor.Cursor.{Cursor}
-use Rattle.text.specs.declared.cursor.Step.TheVariants.{Next, Refused}
-use Rattle.text.specs.declared.cursor.LineEnd.TheVariants as end
 use Rattle.text.specs.declared.cursor.Fields.{Fields}
 use Rattle.text.specs.Words.{newline}
 use Rattle.text.specs.Places.{following, place_in}
 use Rattle.text.specs.Line.{read_line}
 use Rattle.text.specs.Text.{line, no_line, next_from}
 use Rattle.text.specs.Text as text
-use Rattle.text.specs.Cursors.{wrong_at, padded, no_fields, on_end, on_next, whole_at, line_end_at, line_at}
+use Rattle.text.specs.Cursors.{wrong_at, padded, on_end, on_next, whole_at, line_end_at, line_at}
 use Rattle.text.proofs.Places.{place_left}
 use Rattle.text.proofs.Texts.{next_found}
 use Rattle.text.proofs.Behind.{left_at, left_in}
@@ -57,7 +56,7 @@ module _ (s : List ℕ) (at : ℕ) (l rest : List ℕ) (e : drop at s ≡ l ++ (
 
 module _ (s : List ℕ) (c : Cursor) where
   end_by :
-      {p : ℕ} (n : text.Next) → next_from [] (drop c.at s) ≡ n → on_end c.at c.lines n ≡ end.At p →
+      {p : ℕ} (n : text.Next) → next_from [] (drop c.at s) ≡ n → on_end c.at c.lines n ≡ Ok p →
       EndAt s c p
   end_by {p} (line l rest) e h =
       let ep : c.at + length l ≡ p = cc in
@@ -73,19 +72,19 @@ module _ (s : List ℕ) (c : Cursor) where
   end_by no_line e h = let z : ◌≡◌ {A = ℕ} 0 1 = cc in absurd (omega arith)
 
   -- the newline that is answered ends the line at the cursor
-  pub line_end_at_lem : {p : ℕ} → line_end_at s c ≡ end.At p → EndAt s c p
+  pub line_end_at_lem : {p : ℕ} → line_end_at s c ≡ Ok p → EndAt s c p
   unfolding line_end_at
   line_end_at_lem h = end_by (next_from [] (drop c.at s)) refl h
 
   no_end_by :
-      {why : Refusal} (n : text.Next) → on_end c.at c.lines n ≡ end.Refused why →
+      {why : Refusal} (n : text.Next) → on_end c.at c.lines n ≡ Err why →
       (n ≡ no_line) × (why ≡ TextStops c.lines)
   no_end_by (line l rest) h = let z : ◌≡◌ {A = ℕ} 0 1 = cc in absurd (omega arith)
   no_end_by no_line h = (refl, cc)
 
   -- where a refusal is answered there is no newline, and it is 10 with the lines before
   pub line_end_refused :
-      {why : Refusal} → line_end_at s c ≡ end.Refused why →
+      {why : Refusal} → line_end_at s c ≡ Err why →
       (next_from [] (drop c.at s) ≡ no_line) × (why ≡ TextStops c.lines)
   unfolding line_end_at
   line_end_refused h = no_end_by (next_from [] (drop c.at s)) h
@@ -111,10 +110,10 @@ pub data LineRefused (s : List ℕ) (c : Cursor) (w ms : List ℕ) (why : Refusa
 
 module _ (s : List ℕ) (c : Cursor) (w ms : List ℕ) where
   taken_by :
-      {r : Fields} {d : Cursor} (n : text.Next) → next_from [] (drop c.at s) ≡ n → r ≡ on_next s c.lines w ms n →
-      r.said ≡ Next d → Taken s c w ms d r.values
-  taken_by {r} {d} (line l rest) e f h =
-      let k = held_by (place_in s rest) c.lines (read_line w ms l) f h in
+      {r : Fields} (n : text.Next) → next_from [] (drop c.at s) ≡ n → on_next s c.lines w ms n ≡ Ok r →
+      Taken s c w ms r.next r.values
+  taken_by (line l rest) e h =
+      let k = held_by (place_in s rest) c.lines (read_line w ms l) h in
       let t = next_text (drop c.at s) l rest e in
       let front = t ∙ sym (append_assoc l (newline ∷ []) rest) in
       let left : drop (place_in s rest) s ≡ rest = left_at s (l ++ (newline ∷ [])) rest c.at front in
@@ -127,26 +126,25 @@ module _ (s : List ℕ) (c : Cursor) (w ms : List ℕ) where
         within = rw k.there (left_in s rest);
         count = ap (λ (x : Cursor). x.lines) k.there;
       }
-  taken_by no_line e f h = next_refused (sym h ∙ ap (λ (x : Fields). x.said) f)
+  taken_by no_line e h = next_refused (sym h)
 
   -- a line that is answered was read
-  pub line_next : {r : Fields} {d : Cursor} → r ≡ line_at s c w ms → r.said ≡ Next d → Taken s c w ms d r.values
+  pub line_next : {r : Fields} → line_at s c w ms ≡ Ok r → Taken s c w ms r.next r.values
   unfolding line_at
-  line_next f h = taken_by (next_from [] (drop c.at s)) refl f h
+  line_next h = taken_by (next_from [] (drop c.at s)) refl h
 
   refused_by :
-      {r : Fields} {why : Refusal} (n : text.Next) → next_from [] (drop c.at s) ≡ n → r ≡ on_next s c.lines w ms n →
-      r.said ≡ Refused why → LineRefused s c w ms why
-  refused_by (line l rest) e f h =
-      let k = no_line_by (place_in s rest) c.lines (read_line w ms l) f h in wrongs l rest e k.0 k.1
-  refused_by {r} {why} no_line e f h =
-      let z : Refused (TextStops c.lines) ≡ Refused why = sym (ap (λ (x : Fields). x.said) f) ∙ h in stops e cc
+      {why : Refusal} (n : text.Next) → next_from [] (drop c.at s) ≡ n → on_next s c.lines w ms n ≡ Err why →
+      LineRefused s c w ms why
+  refused_by (line l rest) e h =
+      let k = no_line_by (place_in s rest) c.lines (read_line w ms l) h in wrongs l rest e k.0 k.1
+  refused_by no_line e h = stops e cc
 
   -- where a refusal is answered no line was there, or a wrong one
   pub line_refused :
-      {r : Fields} {why : Refusal} → r ≡ line_at s c w ms → r.said ≡ Refused why → LineRefused s c w ms why
+      {why : Refusal} → line_at s c w ms ≡ Err why → LineRefused s c w ms why
   unfolding line_at
-  line_refused f h = refused_by (next_from [] (drop c.at s)) refl f h
+  line_refused h = refused_by (next_from [] (drop c.at s)) refl h
 
 -- the next line is the part of the text before its newline, as a line by itself
 pub line_of_whole :
@@ -159,6 +157,6 @@ line_of_whole s c w ms {p} k =
 -- where there is no newline no line is answered
 pub line_of_none :
     (s : List ℕ) (c : Cursor) (w ms : List ℕ) {why : Refusal} → next_from [] (drop c.at s) ≡ no_line →
-    why ≡ TextStops c.lines → no_fields why ≡ line_at s c w ms
+    why ≡ TextStops c.lines → Err why ≡ line_at s c w ms
 unfolding line_at
 line_of_none s c w ms e f = rw (e, f)

@@ -1,5 +1,5 @@
 -- Putting one thing after another into a lent output.
-use Prim.Native.Nat.{ℕ, zero, suc, ◌+◌, ◌≤◌, ◌<◌, ◌^◌}
+use Prim.Native.Nat.{ℕ, zero, suc, ◌+◌, ◌≤◌, ◌<◌, ◌^◌, min}
 use native.Mathlib.Omega.{arith}
 use native.Mathlib.Numerals.{add-one}
 use mathlib.Core.Path.{◌≡◌, refl, sym, ap, ◌∙◌, subst}
@@ -86,23 +86,14 @@ pub fields_more :
     print_fields (take (i + 1) ms) (take (i + 1) vs)
 fields_more ms vs i h k = rw add-one (next_field ms vs i h k)
 
--- where the separators are spent, the fields are
-pub marks_spent :
-    (ms vs : List ℕ) (i : ℕ) → length ms ≤ i → print_fields (take i ms) (take i vs) ≡ print_fields ms vs
+-- where the separators or the numbers are spent, the fields are
+pub fields_spent :
+    (ms vs : List ℕ) (i : ℕ) → min (length ms) (length vs) ≤ i →
+    print_fields (take i ms) (take i vs) ≡ print_fields ms vs
 unfolding print_fields
-marks_spent [] vs zero h = refl
-marks_spent [] vs (suc i) h = refl
-marks_spent (m ∷ ms) vs zero h = absurd (omega arith)
-marks_spent (m ∷ ms) [] (suc i) h = refl
-marks_spent (m ∷ ms) (v ∷ vs) (suc i) h = rw (marks_spent ms vs i (omega arith))
-
--- where the numbers are spent, the fields are
-pub values_spent :
-    (ms vs : List ℕ) (i : ℕ) → length vs ≤ i → print_fields (take i ms) (take i vs) ≡ print_fields ms vs
-unfolding print_fields
-values_spent [] vs zero h = refl
-values_spent [] vs (suc i) h = refl
-values_spent (m ∷ ms) [] zero h = refl
-values_spent (m ∷ ms) [] (suc i) h = refl
-values_spent (m ∷ ms) (v ∷ vs) zero h = absurd (omega arith)
-values_spent (m ∷ ms) (v ∷ vs) (suc i) h = rw (values_spent ms vs i (omega arith))
+fields_spent [] vs zero h = refl
+fields_spent [] vs (suc i) h = refl
+fields_spent (m ∷ ms) [] zero h = refl
+fields_spent (m ∷ ms) [] (suc i) h = refl
+fields_spent (m ∷ ms) (v ∷ vs) zero h = absurd (omega arith)
+fields_spent (m ∷ ms) (v ∷ vs) (suc i) h = rw (fields_spent ms vs i (omega arith))

@@ -1,11 +1,14 @@
 -- Reading at a place of a text, a byte at a time: the steps of the loops that read a number, a word and a line's end.
 use Prim.Native.Nat.{ℕ, ◌+◌, ◌-◌, ◌*◌, ◌^◌, ◌<◌, ◌≤◌}
 use native.Mathlib.Omega.{arith}
-use mathlib.Core.Bool.{true, false}
-use mathlib.Core.Path.{◌≡◌, refl, ◌∙◌}
+use mathlib.Core.Bool.{Bool, true, false}
+use mathlib.Core.Path.{◌≡◌, refl, sym, ◌∙◌}
 use mathlib.Core.List.{List, [], ◌∷◌, ◌++◌}
 use lib.ListN.{length, get_or, drop, length-append}
-use borrow.Author.Tests.{lt-ltb, le-ltb, eq-eqb, ne_eqb}
+use lib.Dec.{eqb}
+use borrow.Author.Tests.{lt-ltb, le-ltb, eq-eqb, ne_eqb, eqb-true, eqb-false}
+use Rattle.std.specs.List.{starts_with}
+use Rattle.facts.proofs.Bools.{both}
 use Rattle.facts.proofs.Steps.{drop_step, drop_end}
 use Rattle.text.specs.Words.{newline}
 use Rattle.text.specs.Numbers.{got, bad, is_digit, more, read_number}
@@ -44,10 +47,6 @@ module _ (s : List ℕ) (at : ℕ) where
       more (2 ^ 32) 0 (drop at s) ≡ read_number (2 ^ 32) (drop at s)
   unfolding read_number
   number_digits h e z = rw (drop_step s at h, e, ne_eqb (get_or s at 0) 48 z)
-
-  -- at the first digit all are left
-  pub digits_first : at ≤ length s → NumberLeft s at at 0
-  digits_first h = record { left = refl; within = h; small = omega arith }
 
 module _ {s : List ℕ} {start at v : ℕ} (n : NumberLeft s start at v) where
   -- a digit makes the number ten times as large and its own value more
@@ -96,39 +95,27 @@ module _ (s : List ℕ) (m at : ℕ) where
 
 -- ---- a word
 
--- what is left to compare of the word w that begins at `start`: its first i bytes stand before `at`
-pub record WordLeft (s w : List ℕ) (start i at : ℕ) : Type 0 where
-  pub left : read_word w (drop start s) ≡ read_word (drop i w) (drop at s)
-  pub within : at ≤ length s
-  pub upto : i ≤ length w
+-- a word that stands in front is read
+pub word_front : (w bs : List ℕ) → starts_with eqb bs w ≡ true → read_word w bs ≡ got tt (drop (length w) bs)
+unfolding read_word
+word_front [] bs h = refl
+word_front (x ∷ w) [] h = cc
+word_front (x ∷ w) (b ∷ bs) h =
+    let t = both (eqb x b) (starts_with eqb bs w) h in
+    rw (eq-eqb b x (sym (eqb-true x b t.0))) (word_front w bs t.1)
 
--- at the first byte all is left
-pub word_first : (s w : List ℕ) (start : ℕ) → start ≤ length s → WordLeft s w start 0 start
-word_first s w start h = record { left = refl; within = h; upto = omega arith }
-
-module _ {s w : List ℕ} {start i at : ℕ} (k : WordLeft s w start i at) where
-  -- where the text ends the word is not there
-  pub word_short : i < length w → length s ≤ at → read_word w (drop start s) ≡ bad
-  unfolding read_word
-  word_short l h = k.left ∙ rw (drop_end s at h, drop_step w i l)
-
-  -- nor where a byte differs
-  pub word_other : i < length w → at < length s → (get_or s at 0 ≡ get_or w i 0 → ⊥) → read_word w (drop start s) ≡ bad
-  unfolding read_word
-  word_other l h e = k.left ∙ rw (drop_step s at h, drop_step w i l, ne_eqb (get_or s at 0) (get_or w i 0) e)
-
-  -- an equal byte leaves the next
-  pub word_step : i < length w → at < length s → get_or s at 0 ≡ get_or w i 0 → WordLeft s w start (i + 1) (at + 1)
-  unfolding read_word
-  word_step l h e =
-      let go : read_word (drop i w) (drop at s) ≡ read_word (drop (i + 1) w) (drop (at + 1) s) =
-      rw (drop_step s at h, drop_step w i l, eq-eqb (get_or s at 0) (get_or w i 0) e) in
-      record { left = k.left ∙ go; within = omega arith; upto = omega arith }
-
-  -- behind its last byte the word is read
-  pub word_last : length w ≤ i → read_word w (drop start s) ≡ got tt (drop at s)
-  unfolding read_word
-  word_last l = k.left ∙ rw (drop_end w i l)
+-- another is not
+pub word_apart : (w bs : List ℕ) → starts_with eqb bs w ≡ false → read_word w bs ≡ bad
+unfolding read_word
+word_apart [] bs h = cc
+word_apart (x ∷ w) [] h = refl
+word_apart (x ∷ w) (b ∷ bs) h = go (eqb x b) refl (word_apart w bs)
+  where
+    go :
+        (t : Bool) → eqb x b ≡ t → (starts_with eqb bs w ≡ false → read_word w bs ≡ bad) →
+        read_word (x ∷ w) (b ∷ bs) ≡ bad
+    go true e rest = rw (eq-eqb b x (sym (eqb-true x b e))) (rest (rw e at h))
+    go false e rest = rw (ne_eqb b x (λ (f : b ≡ x). eqb-false x b e (sym f)))
 
 -- ---- the end of a line
 
@@ -137,10 +124,6 @@ pub record EndLeft (s : List ℕ) (start at : ℕ) : Type 0 where
   pub passed : List ℕ
   pub left : next_from [] (drop start s) ≡ next_from passed (drop at s)
   pub size : start + length passed ≡ at
-
--- at the start nothing is passed
-pub end_first : (s : List ℕ) (start : ℕ) → EndLeft s start start
-end_first s start = record { passed = []; left = refl; size = omega arith }
 
 module _ {s : List ℕ} {start at : ℕ} (k : EndLeft s start at) where
   -- a newline ends the line

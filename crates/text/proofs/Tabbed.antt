@@ -8,7 +8,7 @@ use lib.ListN.{length, get_or, take, replicate, length-replicate}
 use Rattle.text.specs.Words.{tab}
 use Rattle.text.specs.Numbers.{digits_of}
 use Rattle.text.specs.Line.{print_fields}
-use Rattle.text.proofs.Puts.{fields_more, values_spent}
+use Rattle.text.proofs.Puts.{fields_more, fields_spent}
 
 -- each separator of so many tabs is a tab
 tab_at : (n j : ℕ) → j < n → get_or (replicate n tab) j 0 ≡ tab
@@ -36,4 +36,4 @@ tabbed_more vs j h =
 pub tabbed_all :
     (vs : List ℕ) (j : ℕ) → length vs ≤ j → tabbed_to vs j ≡ print_fields (replicate (length vs) tab) vs
 unfolding tabbed_to
-tabbed_all vs j h = values_spent (replicate (length vs) tab) vs j h
+tabbed_all vs j h = fields_spent (replicate (length vs) tab) vs j (omega arith)

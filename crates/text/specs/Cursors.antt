@@ -10,18 +10,12 @@
 --   whole_at            all that is left is a line of the format, and the next begins behind the newline that follows
 --   line_end_at        the place of the next newline; 10 where there is none
 --   line_at             the next line, of the format
-use Rattle.std.specs.Prelude.{ℕ, ◌+◌, ◌^◌, cond, List, [], length, drop, replicate, ltb}
+use Rattle.std.specs.Prelude.{ℕ, ◌+◌, ◌^◌, cond, List, [], length, drop, replicate, ltb, Err, Ok, Result}
 use Rattle.std.proofs.Math.Option.{Option, none, some}
 use Rattle.std.proofs.lemmas.List.Edits.{sets}
 use Rattle.refusals.specs.declared.Refusal.{Refusal}
 use Rattle.refusals.specs.declared.Refusal.TheVariants.{LineWrong, TextStops}
 use Rattle.text.specs.declared.cursor.Cursor.{Cursor}
-use Rattle.text.specs.declared.cursor.Number.{Number}
-use Rattle.text.specs.declared.cursor.Number.TheVariants.{Value, Refused as NoNumber}
-use Rattle.text.specs.declared.cursor.Step.{Step}
-use Rattle.text.specs.declared.cursor.Step.TheVariants.{Next, Refused}
-use Rattle.text.specs.declared.cursor.LineEnd.{LineEnd}
-use Rattle.text.specs.declared.cursor.LineEnd.TheVariants.{At, Refused as NoEnd}
 use Rattle.text.specs.declared.cursor.Fields.{Fields}
 use Rattle.text.specs.Words.{most_fields}
 use Rattle.text.specs.Places.{following, place_in}
@@ -38,64 +32,61 @@ cursor_at p k = record { at = p; lines = k }
 abbrev pub padded : List ℕ → List ℕ
 padded vs = sets (replicate most_fields 0) 0 vs
 
-abbrev pub no_fields : Refusal → Fields
-no_fields why = record { said = Refused why; values = replicate most_fields 0 }
+abbrev pub some_fields : Cursor → List ℕ → Result Fields Refusal
+some_fields c vs = Ok (record { values = padded vs; next = c })
 
-abbrev pub some_fields : Cursor → List ℕ → Fields
-some_fields c vs = record { said = Next c; values = padded vs }
+abbrev pub on_number : List ℕ → ℕ → Got ℕ → Result (ℕ × Cursor) Refusal
+on_number s k (got v rest) = Ok (v, cursor_at (place_in s rest) k)
+on_number s k bad = Err (wrong_at k)
 
-abbrev pub on_number : List ℕ → ℕ → Got ℕ → Number
-on_number s k (got v rest) = Value v (cursor_at (place_in s rest) k)
-on_number s k bad = NoNumber (wrong_at k)
+abbrev pub on_word : List ℕ → ℕ → Got (Unit {0}) → Result Cursor Refusal
+on_word s k (got u rest) = Ok (cursor_at (place_in s rest) k)
+on_word s k bad = Err (wrong_at k)
 
-abbrev pub on_word : List ℕ → ℕ → Got (Unit {0}) → Step
-on_word s k (got u rest) = Next (cursor_at (place_in s rest) k)
-on_word s k bad = Refused (wrong_at k)
-
-abbrev pub on_fields : List ℕ → ℕ → Got (List ℕ) → Fields
+abbrev pub on_fields : List ℕ → ℕ → Got (List ℕ) → Result Fields Refusal
 on_fields s k (got vs rest) = some_fields (cursor_at (place_in s rest) k) vs
-on_fields s k bad = no_fields (wrong_at k)
+on_fields s k bad = Err (wrong_at k)
 
-abbrev pub on_line : ℕ → ℕ → Option (List ℕ) → Fields
+abbrev pub on_line : ℕ → ℕ → Option (List ℕ) → Result Fields Refusal
 on_line p k (some vs) = some_fields (cursor_at p (following k)) vs
-on_line p k none = no_fields (wrong_at k)
+on_line p k none = Err (wrong_at k)
 
-unfoldable pub digits_at : List ℕ → Cursor → Number
+unfoldable pub digits_at : List ℕ → Cursor → Result (ℕ × Cursor) Refusal
 digits_at s c = on_number s c.lines (more (2 ^ 32) 0 (drop c.at s))
 
-unfoldable pub number_at : List ℕ → Cursor → Number
+unfoldable pub number_at : List ℕ → Cursor → Result (ℕ × Cursor) Refusal
 number_at s c = on_number s c.lines (read_number (2 ^ 32) (drop c.at s))
 
-unfoldable pub behind_at : List ℕ → Cursor → ℕ → Number
+unfoldable pub behind_at : List ℕ → Cursor → ℕ → Result (ℕ × Cursor) Refusal
 behind_at s c m = on_number s c.lines (read_behind m (drop c.at s))
 
-unfoldable pub word_at : List ℕ → Cursor → List ℕ → Step
+unfoldable pub word_at : List ℕ → Cursor → List ℕ → Result Cursor Refusal
 word_at s c w = on_word s c.lines (read_word w (drop c.at s))
 
-unfoldable pub marks_at : List ℕ → Cursor → List ℕ → Fields
+unfoldable pub marks_at : List ℕ → Cursor → List ℕ → Result Fields Refusal
 marks_at s c ms = on_fields s c.lines (fields_from [] ms (drop c.at s))
 
-unfoldable pub fields_at : List ℕ → Cursor → List ℕ → List ℕ → Fields
+unfoldable pub fields_at : List ℕ → Cursor → List ℕ → List ℕ → Result Fields Refusal
 fields_at s c w ms = on_fields s c.lines (read_fields w ms (drop c.at s))
 
-unfoldable pub end_at : List ℕ → Cursor → Step
+unfoldable pub end_at : List ℕ → Cursor → Result Cursor Refusal
 end_at s c =
-    cond (ltb c.at (length s)) (Refused (wrong_at c.lines))
-    (Next (cursor_at (length s + 1) (following c.lines)))
+    cond (ltb c.at (length s)) (Err (wrong_at c.lines))
+    (Ok (cursor_at (length s + 1) (following c.lines)))
 
-unfoldable pub whole_at : List ℕ → Cursor → List ℕ → List ℕ → Fields
+unfoldable pub whole_at : List ℕ → Cursor → List ℕ → List ℕ → Result Fields Refusal
 whole_at s c w ms = on_line (length s + 1) c.lines (read_line w ms (drop c.at s))
 
-abbrev pub on_end : ℕ → ℕ → text.Next → LineEnd
-on_end p k (text.line l rest) = At (p + length l)
-on_end p k text.no_line = NoEnd (TextStops k)
+abbrev pub on_end : ℕ → ℕ → text.Next → Result ℕ Refusal
+on_end p k (text.line l rest) = Ok (p + length l)
+on_end p k text.no_line = Err (TextStops k)
 
-unfoldable pub line_end_at : List ℕ → Cursor → LineEnd
+unfoldable pub line_end_at : List ℕ → Cursor → Result ℕ Refusal
 line_end_at s c = on_end c.at c.lines (text.next_from [] (drop c.at s))
 
-abbrev pub on_next : List ℕ → ℕ → List ℕ → List ℕ → text.Next → Fields
+abbrev pub on_next : List ℕ → ℕ → List ℕ → List ℕ → text.Next → Result Fields Refusal
 on_next s k w ms (text.line l rest) = on_line (place_in s rest) k (read_line w ms l)
-on_next s k w ms text.no_line = no_fields (TextStops k)
+on_next s k w ms text.no_line = Err (TextStops k)
 
-unfoldable pub line_at : List ℕ → Cursor → List ℕ → List ℕ → Fields
+unfoldable pub line_at : List ℕ → Cursor → List ℕ → List ℕ → Result Fields Refusal
 line_at s c w ms = on_next s c.lines w ms (text.next_from [] (drop c.at s))

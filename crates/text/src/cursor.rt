@@ -1,9 +1,8 @@
 // The cursor: where a reader stands in a lent text. Its methods take it by value and hand back the next cursor with
 // what was read, or the refusal of the line it stands in.
 ghost use Rattle.std.specs.Prelude.{◌≤◌, ◌≡◌, length};
-ghost use Rattle.text.specs.Numbers.{is_digit};
 ghost use Rattle.text.specs.Cursors.{wrong_at, digits_at, number_at, behind_at, word_at, marks_at, end_at};
-ghost use Rattle.text.specs.Cursors.{no_fields, fields_at, whole_at, line_end_at, line_at};
+ghost use Rattle.text.specs.Cursors.{fields_at, whole_at, line_end_at, line_at};
 
 use crate::place::{following, within};
 use crate::words::{MOST_FIELDS, NEWLINE};
@@ -17,205 +16,155 @@ pub struct Cursor {
     pub lines: usize,
 }
 
-#[derive(Clone, Copy)]
-pub enum Number {
-    Value(u32, Cursor),
-    Refused(Refusal),
-}
-
-#[derive(Clone, Copy)]
-pub enum Step {
-    Next(Cursor),
-    Refused(Refusal),
-}
-
-// Where a line ends: the place of its newline.
-#[derive(Clone, Copy)]
-pub enum LineEnd {
-    At(usize),
-    Refused(Refusal),
-}
-
-// The numbers of a line, 0 for those that it does not have, and the cursor behind them; all 0 on a refusal.
+// The numbers of a line, 0 for those that it does not have, and the cursor behind them.
 #[derive(Clone, Copy)]
 pub struct Fields {
-    pub said: Step,
     pub values: [u32; MOST_FIELDS],
+    pub next: Cursor,
 }
 
 impl Cursor {
     // The next line, which must be the word with a number behind each separator, and the cursor behind its newline.
-    pub fn line(self, text: &[u8], word: &[u8], marks: &[u8]) -> Fields
+    pub fn line(self, text: &[u8], word: &[u8], marks: &[u8]) -> Result<Fields, Refusal>
         ensures { result ≡ line_at text.now self word.now marks.now }
     {
-        match self.line_end(text) {
-            LineEnd::At(end) => self.whole(&text[..end], word, marks),
-            LineEnd::Refused(why) => no_fields(why),
-        }
+        let end = self.line_end(text)?;
+        self.whole(&text[..end], word, marks)
     }
 
     // The next newline. It is looked for before the line is judged: a last part without one is not read.
-    pub fn line_end(self, text: &[u8]) -> LineEnd
+    pub fn line_end(self, text: &[u8]) -> Result<usize, Refusal>
         ensures { result ≡ line_end_at text.now self }
     {
         let lines = self.lines;
-        let mut end = self.at;
-        while end < text.len() {
+        for end in self.at..text.len() {
             if text[end] == NEWLINE {
-                return LineEnd::At(end);
+                return Ok(end);
             }
-            end += 1;
         }
-        LineEnd::Refused(Refusal::TextStops { lines })
+        Err(Refusal::TextStops { lines })
     }
 
     // All that is left, as a line without its newline, and the cursor behind the newline that follows.
-    pub fn whole(self, text: &[u8], word: &[u8], marks: &[u8]) -> Fields
+    pub fn whole(self, text: &[u8], word: &[u8], marks: &[u8]) -> Result<Fields, Refusal>
         ensures { result ≡ whole_at text.now self word.now marks.now }
     {
-        let read = self.fields(text, word, marks);
-        let said = read.said;
+        let read = self.fields(text, word, marks)?;
+        let next = read.next.end(text)?;
         let values = read.values;
-        match said {
-            Step::Refused(why) => no_fields(why),
-            Step::Next(c) => match c.end(text) {
-                Step::Refused(why) => no_fields(why),
-                Step::Next(d) => Fields {
-                    said: Step::Next(d),
-                    values,
-                },
-            },
-        }
+        Ok(Fields { values, next })
     }
 
     // The word, and a number behind each separator.
-    pub fn fields(self, text: &[u8], word: &[u8], marks: &[u8]) -> Fields
+    pub fn fields(self, text: &[u8], word: &[u8], marks: &[u8]) -> Result<Fields, Refusal>
         ensures { result ≡ fields_at text.now self word.now marks.now }
     {
         let from = Cursor {
             at: within(self.at, text.len()),
             lines: self.lines,
         };
-        match from.word(text, word) {
-            Step::Next(c) => c.numbers(text, marks),
-            Step::Refused(why) => no_fields(why),
-        }
+        from.word(text, word)?.numbers(text, marks)
     }
 
     // The bytes of a word.
-    fn word(self, text: &[u8], word: &[u8]) -> Step
+    fn word(self, text: &[u8], word: &[u8]) -> Result<Cursor, Refusal>
         requires { self.at ≤ length text.now }
         ensures { result ≡ word_at text.now self word.now }
     {
         let lines = self.lines;
-        let mut at = self.at;
-        let mut i = 0;
-        while i < word.len() {
-            if text.len() <= at {
-                return Step::Refused(wrong(lines));
-            }
-            if text[at] != word[i] {
-                return Step::Refused(wrong(lines));
-            }
-            at += 1;
-            i += 1;
+        if !text[self.at..].starts_with(word) {
+            return Err(wrong(lines));
         }
-        Step::Next(Cursor { at, lines })
+        let at = self.at + word.len();
+        Ok(Cursor { at, lines })
     }
 
     // A number behind each separator.
-    fn numbers(self, text: &[u8], marks: &[u8]) -> Fields
+    fn numbers(self, text: &[u8], marks: &[u8]) -> Result<Fields, Refusal>
         requires { self.at ≤ length text.now }
         ensures { result ≡ marks_at text.now self marks.now }
     {
         let lines = self.lines;
         let mut at = self.at;
         let mut values = [0u32; MOST_FIELDS];
-        let mut i = 0;
-        while i < marks.len() {
+        for (i, mark) in marks.iter().enumerate() {
             let c = Cursor { at, lines };
-            match c.number_behind(text, marks[i]) {
-                Number::Refused(why) => return no_fields(why),
-                Number::Value(v, d) => {
-                    store(&mut values, i, v);
-                    at = d.at;
-                }
-            }
-            i += 1;
+            let (v, d) = c.number_behind(text, *mark)?;
+            store(&mut values, i, v);
+            at = d.at;
         }
-        Fields {
-            said: Step::Next(Cursor { at, lines }),
+        Ok(Fields {
             values,
-        }
+            next: Cursor { at, lines },
+        })
     }
 
     // A separator and the number behind it.
-    pub fn number_behind(self, text: &[u8], mark: u8) -> Number
+    pub fn number_behind(self, text: &[u8], mark: u8) -> Result<(u32, Cursor), Refusal>
         ensures { result ≡ behind_at text.now self mark }
     {
         let at = self.at;
         let lines = self.lines;
         if text.len() <= at {
-            return Number::Refused(wrong(lines));
+            return Err(wrong(lines));
         }
         if text[at] != mark {
-            return Number::Refused(wrong(lines));
+            return Err(wrong(lines));
         }
         let c = Cursor { at: at + 1, lines };
         c.number(text)
     }
 
     // A decimal number of 32 bits without leading zeros.
-    fn number(self, text: &[u8]) -> Number
+    fn number(self, text: &[u8]) -> Result<(u32, Cursor), Refusal>
         ensures { result ≡ number_at text.now self }
     {
         let at = self.at;
         let lines = self.lines;
         if text.len() <= at {
-            return Number::Refused(wrong(lines));
+            return Err(wrong(lines));
         }
         let first = text[at];
-        if !is_digit(first) {
-            return Number::Refused(wrong(lines));
+        if !first.is_ascii_digit() {
+            return Err(wrong(lines));
         }
-        if first == 48 {
-            return Number::Value(0, Cursor { at: at + 1, lines });
+        if first == b'0' {
+            return Ok((0, Cursor { at: at + 1, lines }));
         }
         self.digits(text)
     }
 
     // The number that the digits from here on make.
-    fn digits(self, text: &[u8]) -> Number
+    fn digits(self, text: &[u8]) -> Result<(u32, Cursor), Refusal>
         requires { self.at ≤ length text.now }
         ensures { result ≡ digits_at text.now self }
     {
         let lines = self.lines;
-        let mut at = self.at;
         let mut value: u64 = 0;
-        while at < text.len() {
+        for at in self.at..text.len() {
             let byte = text[at];
-            if !is_digit(byte) {
-                return Number::Value(value as u32, Cursor { at, lines });
+            if !byte.is_ascii_digit() {
+                return Ok((value as u32, Cursor { at, lines }));
             }
-            value = value * 10 + (byte - 48) as u64;
-            if 4294967296 <= value {
-                return Number::Refused(wrong(lines));
+            value = value * 10 + u64::from(byte - b'0');
+            if u64::from(u32::MAX) < value {
+                return Err(wrong(lines));
             }
-            at += 1;
         }
-        Number::Value(value as u32, Cursor { at, lines })
+        let at = text.len();
+        Ok((value as u32, Cursor { at, lines }))
     }
 
     // Nothing more in the line; the next one begins behind the newline that follows.
-    pub fn end(self, text: &[u8]) -> Step
+    pub fn end(self, text: &[u8]) -> Result<Cursor, Refusal>
         ensures { result ≡ end_at text.now self }
     {
         let at = self.at;
         let lines = self.lines;
         if at < text.len() {
-            return Step::Refused(wrong(lines));
+            return Err(wrong(lines));
         }
-        Step::Next(Cursor {
+        Ok(Cursor {
             at: text.len() + 1,
             lines: following(lines),
         })
@@ -229,23 +178,4 @@ pub fn wrong(lines: usize) -> Refusal
     Refusal::LineWrong {
         line: following(lines),
     }
-}
-
-// No numbers, and why.
-fn no_fields(why: Refusal) -> Fields
-    ensures { result ≡ no_fields why }
-{
-    Fields {
-        said: Step::Refused(why),
-        values: [0; MOST_FIELDS],
-    }
-}
-
-fn is_digit(byte: u8) -> bool
-    ensures { result ≡ is_digit byte }
-{
-    if byte < 48 {
-        return false;
-    }
-    byte <= 57
 }

@@ -4,43 +4,28 @@ ghost use Rattle.text.specs.Line.{ended};
 ghost use Rattle.text.specs.Puts.{Put};
 ghost use Rattle.text.specs.EndLines.{end_line, end_line_at};
 
-use crate::cursor::{Cursor, Step, wrong};
+use crate::cursor::{Cursor, wrong};
 use crate::put::put_line;
 use crate::words::{END, ONE_TAB};
 use refusals::Refusal;
 
-// Whether a text ends as it should.
-#[derive(Clone, Copy)]
-pub enum Ending {
-    Refused(Refusal),
-    Over,
-}
-
 // The end line, which has the number of lines before it, and nothing after it. Where what stands before it is not
 // complete, any end line is wrong.
-pub fn end_line(text: &[u8], here: Cursor, complete: bool, before: usize) -> Ending
+pub fn end_line(text: &[u8], here: Cursor, complete: bool, before: usize) -> Result<(), Refusal>
     ensures { result ≡ end_line_at text.now here complete before }
 {
-    let lines = here.lines;
-    let read = here.line(text, &END, &ONE_TAB);
-    let said = read.said;
-    let values = read.values;
-    match said {
-        Step::Refused(why) => Ending::Refused(why),
-        Step::Next(next) => {
-            if !complete {
-                return Ending::Refused(wrong(lines));
-            }
-            if values[0] as usize != before {
-                return Ending::Refused(wrong(lines));
-            }
-            let at = next.at;
-            if at < text.len() {
-                return Ending::Refused(wrong(next.lines));
-            }
-            Ending::Over
-        }
+    let read = here.line(text, &END, &ONE_TAB)?;
+    if !complete {
+        return Err(wrong(here.lines));
     }
+    if read.values[0] as usize != before {
+        return Err(wrong(here.lines));
+    }
+    let next = read.next;
+    if next.at < text.len() {
+        return Err(wrong(next.lines));
+    }
+    Ok(())
 }
 
 // The end line of a text, which has `before` lines before it.

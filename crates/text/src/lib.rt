@@ -4,7 +4,6 @@
 //   cursor::Cursor::fields, number_behind, end     its parts: the word and its numbers; one number; nothing more
 //   put::put_line, put_fields, put_numbers         the same, written as far as there is room
 //   put::put_bytes, put_behind, put_wide, put      its parts: a word; a number behind a separator; one byte
-//   put::Written                                   the answer of a call that counts some bytes and then puts them
 //   end::end_line, put_end                         the end line of a file, read and written
 //   cursor::wrong                                  the refusal of a wrong line
 //   place::following, within                       the next place or count; a place that is kept within a size

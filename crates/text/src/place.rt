@@ -2,25 +2,18 @@
 ghost use Rattle.std.specs.Prelude.{◌≡◌};
 ghost use Rattle.text.specs.Places.{following, within};
 
-// The highest place or count there is.
-pub const HIGHEST: usize = 18446744073709551615;
-
 // The place after `n`; the highest stands for all beyond it.
+#[tactic(auto, unfolding(crate::specs::Places::place_after, crate::specs::Places::within))]
 pub fn following(n: usize) -> usize
     ensures { result ≡ following n }
 {
-    if n < HIGHEST {
-        return n + 1;
-    }
-    n
+    n.saturating_add(1)
 }
 
 // The place `at`, or the end of `size` bytes where that is nearer.
+#[tactic(auto, unfolding(crate::specs::Places::within))]
 pub fn within(at: usize, size: usize) -> usize
     ensures { result ≡ within at size }
 {
-    if size < at {
-        return size;
-    }
-    at
+    at.min(size)
 }

@@ -8,14 +8,6 @@ ghost use Rattle.text.specs.Puts.{Put};
 
 use crate::place::following;
 use crate::words::{NEWLINE, TAB};
-use refusals::Refusal;
-
-// The answer of a call that writes some bytes from the front of a lent output on: how many, or why it wrote none.
-#[derive(Clone, Copy)]
-pub enum Written {
-    Refused(Refusal),
-    Bytes { bytes: usize },
-}
 
 // A line: its word, a number behind each separator, and the newline.
 pub fn put_line(out: &mut [u8], at: usize, word: &[u8], marks: &[u8], values: &[u32]) -> usize
@@ -32,10 +24,8 @@ pub fn put_bytes(out: &mut [u8], at: usize, word: &[u8]) -> usize
     ensures { Put out.old at word.now out.new result }
 {
     let mut p = at;
-    let mut i = 0;
-    while i < word.len() {
-        p = put(out, p, word[i]);
-        i += 1;
+    for byte in word {
+        p = put(out, p, *byte);
     }
     p
 }
@@ -46,13 +36,8 @@ pub fn put_fields(out: &mut [u8], at: usize, marks: &[u8], values: &[u32]) -> us
         out.new result }
 {
     let mut p = at;
-    let mut i = 0;
-    while i < marks.len() {
-        if values.len() <= i {
-            return p;
-        }
-        p = put_behind(out, p, marks[i], values[i]);
-        i += 1;
+    for (mark, value) in marks.iter().zip(values) {
+        p = put_behind(out, p, *mark, *value);
     }
     p
 }
@@ -63,10 +48,8 @@ pub fn put_numbers(out: &mut [u8], at: usize, values: &[u32]) -> usize
         (print_fields (replicate (length values.now) tab) values.now) out.new result }
 {
     let mut p = at;
-    let mut i = 0;
-    while i < values.len() {
-        p = put_behind(out, p, TAB, values[i]);
-        i += 1;
+    for value in values {
+        p = put_behind(out, p, TAB, *value);
     }
     p
 }
@@ -75,7 +58,7 @@ pub fn put_numbers(out: &mut [u8], at: usize, values: &[u32]) -> usize
 pub fn put_behind(out: &mut [u8], at: usize, mark: u8, value: u32) -> usize
     ensures { Put out.old at (mark ∷ digits_of value) out.new result }
 {
-    put_wide(out, at, mark, value as u64)
+    put_wide(out, at, mark, u64::from(value))
 }
 
 // A separator and a number of 64 bits behind it.
@@ -91,10 +74,10 @@ fn put_number(out: &mut [u8], at: usize, value: u64) -> usize
     ensures { Put out.old at (digits_of value) out.new result }
 {
     if value < 10 {
-        return put(out, at, 48 + value as u8);
+        return put(out, at, b'0' + value as u8);
     }
     let p = put_number(out, at, value / 10);
-    put(out, p, 48 + (value % 10) as u8)
+    put(out, p, b'0' + (value % 10) as u8)
 }
 
 // One byte.
@@ -103,7 +86,6 @@ pub fn put(out: &mut [u8], at: usize, byte: u8) -> usize
 {
     if at < out.len() {
         out[at] = byte;
-        return at + 1;
     }
     following(at)
 }

@@ -1,21 +1,22 @@
 -- THE THEOREM: the check accepts exactly the trees that may serve.
+use Rattle.tree_check.specs.declared.preorder.Lack.{Lack}
+use Rattle.tree_check.specs.Said.{Complete}
+use Rattle.std.specs.Prelude.{Option, Some}
 use Prim.Native.Nat.{ℕ}
 use mathlib.Core.Path.{◌≡◌, refl, ap, ◌∙◌}
 use mathlib.Core.Logic.{◌↔◌}
 use mathlib.Core.List.{List}
-use Rattle.refusals.specs.declared.Verdict.TheVariants.{Fine}
+use Rattle.refusals.specs.Verdict.{Fine}
 use Rattle.refusals.proofs.Order.{refused_not_fine}
-use Rattle.tree_check.specs.declared.preorder.Lack.{Lack}
-use Rattle.tree_check.specs.declared.preorder.Lack.TheVariants.{Complete, Lacks}
 use Rattle.tree_check.specs.TreeCheck.{lack_verdict, check_verdict}
 use Rattle.tree_check.specs.Serves.{Serves}
 use Rattle.tree_check.proofs.Agreement.{agrees_of_complete, complete_of_agrees}
 use Rattle.tree_check.proofs.Stages.{Reached, reached, lack_decides, formed, proper, reaches}
 
 -- a lack that is fine is none
-pub lack_fine : (y : Lack) → lack_verdict y ≡ Fine → y ≡ Complete
+pub lack_fine : (y : Option Lack) → lack_verdict y ≡ Fine → y ≡ Complete
 lack_fine Complete e = refl
-lack_fine (Lacks i r) e = refused_not_fine e
+lack_fine (Some lack) e = refused_not_fine e
 
 module _ (rs nodes pool : List ℕ) where
   -- an accepted tree has its root's part reached, without a lack

@@ -1,5 +1,8 @@
 -- Agreement: in a tree whose root's part is built, every legal header gets the right list exactly where no leaf lacks a
 -- rule.
+use Rattle.tree_check.specs.declared.preorder.Lack.{Lack}
+use Rattle.tree_check.specs.Said.{Complete}
+use Rattle.std.specs.Prelude.{Option}
 use Prim.Native.Nat.{ℕ, ◌<◌}
 use mathlib.Core.Bool.{true}
 use mathlib.Core.Path.{◌≡◌, sym, ap, ◌∙◌}
@@ -17,8 +20,6 @@ use Rattle.rules.specs.Matching.{matches, matching, rule_box}
 use Rattle.rules.proofs.Meaning.{matches_iff_inside, rule_box_full}
 use Rattle.trees.specs.Words.{entries}
 use Rattle.trees.specs.Search.{tree_list}
-use Rattle.tree_check.specs.declared.preorder.Lack.{Lack}
-use Rattle.tree_check.specs.declared.preorder.Lack.TheVariants.{Complete}
 use Rattle.tree_check.specs.Leads.{Leads}
 use Rattle.tree_check.specs.Lacks.{LacksNone}
 use Rattle.tree_check.specs.Serves.{Agrees}
@@ -26,7 +27,7 @@ use Rattle.tree_check.proofs.Lacks.{complete_iff}
 use Rattle.tree_check.proofs.FirstLack.{complete_at, complete_of_each}
 use Rattle.tree_check.proofs.Comes.{Formed, finds, bounded, leaf_of_lem, box_full, legal, list_is}
 
-module _ {rs nodes pool : List ℕ} {c l : ℕ} {y : Lack} (t : Formed rs nodes pool c l y) where
+module _ {rs nodes pool : List ℕ} {c l : ℕ} {y : Option Lack} (t : Formed rs nodes pool c l y) where
   module _ {cuts : List ℕ} {x : ℕ} {d : List (List ℕ)} (w : Leads nodes root_box 0 cuts x d) where
     -- the tree's list of a header in a leaf's box is what matches of the leaf's entries
     pub tree_list_is :

@@ -1,24 +1,24 @@
 -- What the searches by an accepted tree answer: each answer that a promise allows is the one that is made here.
+use Rattle.tree_check.specs.Said.{Accepted}
+use Rattle.trees.specs.Answers.{Found}
 use Prim.Native.Nat.{ℕ, ◌+◌, ◌≤◌}
 use mathlib.Core.Path.{◌≡◌, refl, sym, ap, ◌∙◌}
 use mathlib.Core.List.{List, [], ◌∷◌}
 use lib.ListN.{length}
 use Rattle.facts.specs.Lists.{written}
-use Rattle.refusals.specs.declared.Verdict.TheVariants.{Fine}
+use Rattle.refusals.specs.Verdict.{Fine}
 use Rattle.refusals.specs.Paper.{success}
 use Rattle.refusals.proofs.Order.{then_fine, room_fine_iff}
 use Rattle.refusals.proofs.Promises.{says_fine, says_unique, writes_fine, writes_unique}
 use Rattle.fields.specs.Headers.{Legal}
 use Rattle.rules.specs.Matching.{matches, matching}
 use Rattle.rules.specs.LineFirst.{first_of}
-use Rattle.trees.specs.declared.search.TreeListed.TheVariants.{Found}
 use Rattle.trees.specs.Walk.{walk_of, visited}
 use Rattle.trees.specs.Search.{leaf_list, looked_at}
 use Rattle.trees.specs.TreeAll.{paper, tree_all_verdict, TreeAllSearched}
 use Rattle.trees.specs.TreeFirst as first
 use Rattle.trees.specs.TreeFirst.{TreeFirstSearched}
 use Rattle.trees.proofs.Unique.{listed_apart, first_apart}
-use Rattle.tree_check.specs.declared.check.TreeAnswer.TheVariants.{Accepted}
 use Rattle.tree_check.specs.TreeCheck.{check_verdict, TreeChecked}
 use Rattle.tree_check.specs.Answering.{AllGives, first_answer, FirstGives, Answering}
 use Rattle.tree_check.proofs.Stages.{lack_decides}

@@ -1,15 +1,15 @@
 -- What an answer of the tree check says: a refusal is the check's, and the two numbers of an accepted tree are the
 -- figures of its root's part, so that they bound every legal header and are met.
+use Rattle.tree_check.specs.Said.{Accepted, Complete}
+use Rattle.std.specs.Prelude.{Err}
 use Prim.Native.Nat.{ℕ}
 use mathlib.Core.Path.{◌≡◌, refl, sym, ap, ◌∙◌}
 use mathlib.Core.Logic.{◌↔◌}
 use mathlib.Core.List.{List, [], ◌∷◌}
 use Rattle.refusals.specs.declared.Refusal.{Refusal}
-use Rattle.refusals.specs.declared.Verdict.TheVariants as verdict
+use Rattle.refusals.specs.Verdict as verdict
 use Rattle.refusals.specs.Paper.{success}
 use Rattle.refusals.proofs.Promises.{says_refused, says_fine, refused_by, fine_by}
-use Rattle.tree_check.specs.declared.preorder.Lack.TheVariants.{Complete}
-use Rattle.tree_check.specs.declared.check.TreeAnswer.TheVariants.{Refused, Accepted}
 use Rattle.tree_check.specs.TreeCheck.{figures, check_verdict, TreeChecked}
 use Rattle.tree_check.specs.Figures.{Figures}
 use Rattle.tree_check.proofs.Stages.{Reached, lack_decides, formed}
@@ -19,7 +19,7 @@ use Rattle.tree_check.proofs.Figures.{figures_met}
 module _ (rs nodes pool : List ℕ) where
   -- the answer is a refusal exactly where the check refuses so
   pub refused_iff :
-      {why : Refusal} → TreeChecked rs nodes pool (Refused why) ↔ (check_verdict rs nodes pool ≡ verdict.Refused why)
+      {why : Refusal} → TreeChecked rs nodes pool (Err why) ↔ (check_verdict rs nodes pool ≡ verdict.Refused why)
   refused_iff = (λ p. refused_by p refl, λ e. says_refused e refl)
 
   -- an accepted tree's answer is the figures of its root's part

@@ -1,5 +1,7 @@
 -- Parts that are begun, and parts that are not: a cut's right child is the first number after its left part, but so far
 -- 0 where its right part is not begun.
+use Rattle.tree_check.specs.Said.{Complete, Good}
+use Rattle.std.specs.Prelude.{Err}
 use Prim.Native.Nat.{ℕ, ◌≤◌, ◌<◌}
 use native.Mathlib.Omega.{arith}
 use mathlib.Core.Bool.{Bool, true, false}
@@ -9,8 +11,6 @@ use borrow.Author.Tests.{lt-ltb, le-ltb}
 use Rattle.facts.proofs.Cases.{WithinOrOver, at_most, over, within_or_over}
 use Rattle.refusals.specs.declared.Refusal.TheVariants.{NodeWrong}
 use Rattle.trees.specs.Words.{node_count, child_of}
-use Rattle.tree_check.specs.declared.preorder.Lack.TheVariants.{Complete}
-use Rattle.tree_check.specs.declared.preorder.Part.TheVariants.{Refused, Good}
 use Rattle.tree_check.specs.Preorder.{no_part, child_at}
 use Rattle.tree_check.specs.Leads.{right_box, Divides, Leads, here, to_left, to_right}
 
@@ -19,7 +19,7 @@ pub none_so_far : {far : Bool} (i : ℕ) → far ≡ true → Good i 0 0 Complet
 none_so_far i e = rw e
 
 -- in a whole tree it is refused
-pub none_refused : {far : Bool} (i : ℕ) → far ≡ false → Refused (NodeWrong i) ≡ no_part far i
+pub none_refused : {far : Bool} (i : ℕ) → far ≡ false → Err (NodeWrong i) ≡ no_part far i
 none_refused i e = rw e
 
 -- in a whole tree the right child is the first number after the left part

@@ -1,4 +1,6 @@
 -- The figures of a built part: they bound the way to each of its leaves, and ways meet them.
+use Rattle.tree_check.specs.declared.preorder.Lack.{Lack}
+use Rattle.std.specs.Prelude.{Option}
 use Prim.Native.Nat.{ℕ, ◌+◌, ◌≤◌, ◌<◌, max}
 use native.Mathlib.Nat.{max-eq_left, max-eq_right, le_of_lt}
 use native.Mathlib.Omega.{arith}
@@ -9,7 +11,6 @@ use lib.ListN.{length}
 use Rattle.facts.specs.Lists.{rises}
 use Rattle.facts.proofs.Cases.{WithinOrOver, at_most, over, within_or_over}
 use Rattle.trees.specs.Words.{leaf_mark, node_count, field_of, entries}
-use Rattle.tree_check.specs.declared.preorder.Lack.{Lack}
 use Rattle.tree_check.specs.Leads.{left_box, right_box, Leads, here, to_left, to_right}
 use Rattle.tree_check.proofs.Built.{Built, of_none, of_leaf, of_cut, built_forward}
 use Rattle.tree_check.proofs.Begun.{leads_there, from_child}
@@ -60,7 +61,7 @@ module _ {nodes pool : List ℕ} {i e j m c l c' l' x : ℕ} {cuts : List ℕ} w
 
 -- the figures of a built part bound each way in it
 pub bounds :
-    {far : Bool} {rs nodes pool : List ℕ} {k : ℕ} {b d : List (List ℕ)} {i e c l x : ℕ} {y : Lack} {cuts : List ℕ} →
+    {far : Bool} {rs nodes pool : List ℕ} {k : ℕ} {b d : List (List ℕ)} {i e c l x : ℕ} {y : Option Lack} {cuts : List ℕ} →
     Built far rs nodes pool k b i e c l y → Leads nodes b i cuts x d → Bounded nodes pool i e c l cuts x
 bounds (of_none q a) w = absurd (omega (arith, leads_there w))
 bounds (of_leaf a f r) (here u g) = at_leaf a f r
@@ -75,7 +76,7 @@ bounds {far = far} (of_cut d s q r) (to_right d' o w) =
 module _ {rs nodes pool : List ℕ} where
   -- some way in a built part of a whole tree passes as many cuts as its figure says
   pub deepest :
-      {k : ℕ} {b : List (List ℕ)} {i e c l : ℕ} {y : Lack} → Built false rs nodes pool k b i e c l y →
+      {k : ℕ} {b : List (List ℕ)} {i e c l : ℕ} {y : Option Lack} → Built false rs nodes pool k b i e c l y →
       (w : Way nodes b i) × (length w.cuts ≡ c)
   deepest (of_none z a) = absurd (false≢true z)
   deepest (of_leaf a f r) = (record { cuts = []; at = _; box = _; leads = here a f }, refl)
@@ -92,7 +93,7 @@ module _ {rs nodes pool : List ℕ} where
 
   -- some way in a built part of a whole tree comes to a leaf with as many entries as its figure says
   pub longest :
-      {k : ℕ} {b : List (List ℕ)} {i e c l : ℕ} {y : Lack} → Built false rs nodes pool k b i e c l y →
+      {k : ℕ} {b : List (List ℕ)} {i e c l : ℕ} {y : Option Lack} → Built false rs nodes pool k b i e c l y →
       (w : Way nodes b i) × (length (entries nodes pool w.at) ≡ l)
   longest (of_none z a) = absurd (false≢true z)
   longest (of_leaf a f r) = (record { cuts = []; at = _; box = _; leads = here a f }, refl)

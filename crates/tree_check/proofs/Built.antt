@@ -1,4 +1,8 @@
 -- What the check of a part accepts, with its figures, as a family: what it says is built so.
+use Rattle.tree_check.specs.declared.preorder.Part.{Part}
+use Rattle.tree_check.specs.declared.preorder.Lack.{Lack}
+use Rattle.tree_check.specs.Said.{Complete, Good}
+use Rattle.std.specs.Prelude.{Err, Option, Result, Ok}
 use Prim.Native.Nat.{ℕ, zero, suc, ◌+◌, ◌≤◌, ◌<◌, max}
 use native.Mathlib.Omega.{arith}
 use mathlib.Core.Bool.{Bool, true, false}
@@ -15,10 +19,6 @@ use Rattle.refusals.specs.declared.Refusal.{Refusal}
 use Rattle.fields.specs.Cuts.{divides}
 use Rattle.fields.proofs.Cuts.{divides_iff}
 use Rattle.trees.specs.Words.{leaf_mark, node_count, field_of, value_of, child_of, entries}
-use Rattle.tree_check.specs.declared.preorder.Lack.{Lack}
-use Rattle.tree_check.specs.declared.preorder.Lack.TheVariants.{Complete}
-use Rattle.tree_check.specs.declared.preorder.Part.{Part}
-use Rattle.tree_check.specs.declared.preorder.Part.TheVariants.{Refused, Good}
 use Rattle.tree_check.specs.Preorder.{lack_of, earlier, no_part, child_at, after_left, leaf_part}
 use Rattle.tree_check.specs.Preorder.{preorder_of}
 use Rattle.tree_check.specs.Leads.{left_box, right_box, Divides}
@@ -28,7 +28,7 @@ use Rattle.tree_check.proofs.Parts.{preorder_deep, preorder_undivided, preorder_
 
 -- the part that begins at node i, for box b, with at most k cuts above a leaf: it ends at e, with c cuts above its
 -- deepest leaf, l entries in its longest, and y the first lack. So far it may be a part that is not begun
-pub data Built (far : Bool) (rs nodes pool : List ℕ) : ℕ → List (List ℕ) → ℕ → ℕ → ℕ → ℕ → Lack → Type 0 where
+pub data Built (far : Bool) (rs nodes pool : List ℕ) : ℕ → List (List ℕ) → ℕ → ℕ → ℕ → ℕ → Option Lack → Type 0 where
   of_none :
       {k : ℕ} {b : List (List ℕ)} {i : ℕ} → far ≡ true → node_count nodes ≤ i →
       Built far rs nodes pool k b i i 0 0 Complete
@@ -37,16 +37,16 @@ pub data Built (far : Bool) (rs nodes pool : List ℕ) : ℕ → List (List ℕ)
       rises 0 (entries nodes pool i) ≡ true →
       Built far rs nodes pool k b i (i + 1) 0 (length (entries nodes pool i)) (lack_of rs (entries nodes pool i) b i)
   of_cut :
-      {k : ℕ} {b : List (List ℕ)} {i m e c₁ l₁ c₂ l₂ : ℕ} {y₁ y₂ : Lack} → Divides nodes b i →
+      {k : ℕ} {b : List (List ℕ)} {i m e c₁ l₁ c₂ l₂ : ℕ} {y₁ y₂ : Option Lack} → Divides nodes b i →
       Built far rs nodes pool k (left_box nodes b i) (i + 1) m c₁ l₁ y₁ →
       child_of nodes i ≡ child_at far (node_count nodes) m → Built far rs nodes pool k (right_box nodes b i) m e c₂ l₂ y₂ →
       Built far rs nodes pool (suc k) b i e (max c₁ c₂ + 1) (max l₁ l₂) (earlier y₁ y₂)
 
 module _ (far : Bool) (rs nodes pool : List ℕ) where
   -- what is said of a part: it is built so, or refused with 6 or 7
-  abbrev BuiltSo : ℕ → List (List ℕ) → ℕ → Part → Type 0
-  BuiltSo k b i (Refused why) = Malformed why
-  BuiltSo k b i (Good e c l y) = Built far rs nodes pool k b i e c l y
+  abbrev BuiltSo : ℕ → List (List ℕ) → ℕ → Result Part Refusal → Type 0
+  BuiltSo k b i (Err why) = Malformed why
+  BuiltSo k b i (Ok p) = Built far rs nodes pool k b i p.next p.cuts p.longest p.lack
 
   leaf_built :
       (k : ℕ) (b : List (List ℕ)) (i : ℕ) → i < node_count nodes → leaf_mark ≤ field_of nodes i →
@@ -61,21 +61,21 @@ module _ (far : Bool) (rs nodes pool : List ℕ) where
 
   -- a cut after its left part, and then after its right
   cut_built :
-      (k : ℕ) (b : List (List ℕ)) (i : ℕ) → Divides nodes b i → (left : Part) →
-      BuiltSo k (left_box nodes b i) (i + 1) left → (right : ℕ → Part) →
+      (k : ℕ) (b : List (List ℕ)) (i : ℕ) → Divides nodes b i → (left : Result Part Refusal) →
+      BuiltSo k (left_box nodes b i) (i + 1) left → (right : ℕ → Result Part Refusal) →
       ((m : ℕ) → BuiltSo k (right_box nodes b i) m (right m)) →
       BuiltSo (suc k) b i (after_left far (node_count nodes) i (child_of nodes i) left right)
-  cut_built k b i d (Refused why) h right r = h
-  cut_built k b i d (Good m c l y) h right r =
-      go (eqb (child_of nodes i) (child_at far (node_count nodes) m)) refl (right m) refl (r m)
+  cut_built k b i d (Err why) h right r = h
+  cut_built k b i d (Ok left) h right r =
+      go (eqb (child_of nodes i) (child_at far (node_count nodes) left.next)) refl (right left.next) refl (r left.next)
     where
       go :
-          (t : Bool) → eqb (child_of nodes i) (child_at far (node_count nodes) m) ≡ t → (x : Part) → right m ≡ x →
-          BuiltSo k (right_box nodes b i) m x →
-          BuiltSo (suc k) b i (after_left far (node_count nodes) i (child_of nodes i) (Good m c l y) right)
+          (t : Bool) → eqb (child_of nodes i) (child_at far (node_count nodes) left.next) ≡ t → (x : Result Part Refusal) →
+          right left.next ≡ x → BuiltSo k (right_box nodes b i) left.next x →
+          BuiltSo (suc k) b i (after_left far (node_count nodes) i (child_of nodes i) (Ok left) right)
       go false t x q s = rw t six
-      go true t (Refused why) q s = rw (t, q) s
-      go true t (Good e c' l' y') q s = rw (t, q) (of_cut d h (eqb-true (child_of nodes i) _ t) s)
+      go true t (Err why) q s = rw (t, q) s
+      go true t (Ok p) q s = rw (t, q) (of_cut d h (eqb-true (child_of nodes i) _ t) s)
 
   divided_built :
       (k : ℕ) (b : List (List ℕ)) (i : ℕ) → i < node_count nodes → field_of nodes i < leaf_mark →
@@ -121,33 +121,33 @@ module _ (far : Bool) (rs nodes pool : List ℕ) where
 
   -- a part that the check accepts is built so
   pub built :
-      {k : ℕ} {b : List (List ℕ)} {i e c l : ℕ} {y : Lack} → preorder_of far k rs nodes pool b i ≡ Good e c l y →
+      {k : ℕ} {b : List (List ℕ)} {i e c l : ℕ} {y : Option Lack} → preorder_of far k rs nodes pool b i ≡ Good e c l y →
       Built far rs nodes pool k b i e c l y
-  built {k} {b} {i} q = subst (λ (p : Part). BuiltSo k b i p) q (part_built k b i)
+  built {k} {b} {i} q = subst (λ (p : Result Part Refusal). BuiltSo k b i p) q (part_built k b i)
 
   -- a part that is refused is refused with 6 or 7
   pub part_malformed :
-      (k : ℕ) (b : List (List ℕ)) (i : ℕ) (why : Refusal) → preorder_of far k rs nodes pool b i ≡ Refused why →
+      (k : ℕ) (b : List (List ℕ)) (i : ℕ) (why : Refusal) → preorder_of far k rs nodes pool b i ≡ Err why →
       Malformed why
-  part_malformed k b i why q = subst (λ (p : Part). BuiltSo k b i p) q (part_built k b i)
+  part_malformed k b i why q = subst (λ (p : Result Part Refusal). BuiltSo k b i p) q (part_built k b i)
 
 module _ {far : Bool} {rs nodes pool : List ℕ} where
   -- no leaf of a built part lies under more cuts than are allowed
   pub built_shallow :
-      {k : ℕ} {b : List (List ℕ)} {i e c l : ℕ} {y : Lack} → Built far rs nodes pool k b i e c l y → c ≤ k
+      {k : ℕ} {b : List (List ℕ)} {i e c l : ℕ} {y : Option Lack} → Built far rs nodes pool k b i e c l y → c ≤ k
   built_shallow (of_none q a) = omega arith
   built_shallow (of_leaf a f r) = omega arith
   built_shallow (of_cut d p q r) = omega (arith, built_shallow p, built_shallow r)
 
   -- a built part does not end before it begins
   pub built_forward :
-      {k : ℕ} {b : List (List ℕ)} {i e c l : ℕ} {y : Lack} → Built far rs nodes pool k b i e c l y → i ≤ e
+      {k : ℕ} {b : List (List ℕ)} {i e c l : ℕ} {y : Option Lack} → Built far rs nodes pool k b i e c l y → i ≤ e
   built_forward (of_none q a) = omega arith
   built_forward (of_leaf a f r) = omega arith
   built_forward (of_cut d p q r) = omega (arith, built_forward p, built_forward r)
 
 -- the cuts above the deepest leaf of an accepted part are no more than are allowed
 pub part_shallow :
-    (far : Bool) (k : ℕ) (rs nodes pool : List ℕ) (b : List (List ℕ)) (i : ℕ) {e c l : ℕ} {y : Lack} →
+    (far : Bool) (k : ℕ) (rs nodes pool : List ℕ) (b : List (List ℕ)) (i : ℕ) {e c l : ℕ} {y : Option Lack} →
     preorder_of far k rs nodes pool b i ≡ Good e c l y → c ≤ k
 part_shallow far k rs nodes pool b i q = built_shallow (built far rs nodes pool q)

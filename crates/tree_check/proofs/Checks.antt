@@ -1,4 +1,9 @@
 -- The tree check put together: the words first, and then the root's part.
+use Rattle.tree_check.specs.declared.preorder.Part.{Part}
+use Rattle.tree_check.specs.declared.preorder.Lack.{Lack}
+use Rattle.tree_check.specs.declared.check.Figures.{Figures}
+use Rattle.tree_check.specs.Said.{Accepted, Complete, Good, Lacks}
+use Rattle.std.specs.Prelude.{Err, Option, Result}
 use Prim.Native.Nat.{ℕ}
 use mathlib.Core.Path.{◌≡◌, refl, sym, ap, ◌∙◌}
 use mathlib.Core.Logic.{◌↔◌}
@@ -6,7 +11,7 @@ use mathlib.Core.List.{List}
 use borrow.Author.Tests.{eq-eqb, ne_eqb}
 use Rattle.refusals.specs.declared.Refusal.{Refusal}
 use Rattle.refusals.specs.declared.Refusal.TheVariants.{NodeWrong, LeafLacksRule}
-use Rattle.refusals.specs.declared.Verdict.TheVariants as verdict
+use Rattle.refusals.specs.Verdict as verdict
 use Rattle.refusals.specs.Paper.{success}
 use Rattle.refusals.proofs.Order.{holds_fine, fails_refused, then_fine, then_refused, then_fine_iff, then_assoc}
 use Rattle.refusals.proofs.Promises.{says_refused, says_fine, says_after}
@@ -15,19 +20,13 @@ use Rattle.rules.specs.Good.{list_verdict}
 use Rattle.trees.specs.Words.{node_count, size_verdict}
 use Rattle.trees.specs.Spelt.{Spelt, spelt_verdict}
 use Rattle.trees.proofs.Spelling.{spelt_fine_iff}
-use Rattle.tree_check.specs.declared.preorder.Lack.{Lack}
-use Rattle.tree_check.specs.declared.preorder.Lack.TheVariants.{Complete, Lacks}
-use Rattle.tree_check.specs.declared.preorder.Part.{Part}
-use Rattle.tree_check.specs.declared.preorder.Part.TheVariants as part
-use Rattle.tree_check.specs.declared.check.TreeAnswer.{TreeAnswer}
-use Rattle.tree_check.specs.declared.check.TreeAnswer.TheVariants.{Refused, Accepted}
 use Rattle.tree_check.specs.TreeCheck.{root_part, lack_verdict, end_verdict, part_verdict, figures}
 use Rattle.tree_check.specs.TreeCheck.{list_and_sizes, words_verdict, check_verdict, TreeChecked}
 use Rattle.tree_check.specs.Steps.{Judged}
 
 -- ---- the root's part
 
-module _ (m next : ℕ) (lack : Lack) where
+module _ (m next : ℕ) (lack : Option Lack) where
   -- a node left over is refused
   pub end_left_over : (next ≡ m → ⊥) → verdict.Refused (NodeWrong next) ≡ end_verdict m next lack
   end_left_over n = sym (then_refused _ (fails_refused _ (ne_eqb next m n)))
@@ -46,30 +45,30 @@ module _ (m next : ℕ) (lack : Lack) where
     end_lacking c = sym (ap lack_verdict c) ∙ whole
 
 -- a part that is refused is the refusal
-pub judged_refused : (m : ℕ) (p : Part) {why : Refusal} → p ≡ part.Refused why → Judged m p (Refused why)
+pub judged_refused : (m : ℕ) (p : Result Part Refusal) {why : Refusal} → p ≡ Err why → Judged m p (Err why)
 judged_refused m p e = says_refused (ap (part_verdict m) e) refl
 
-module _ (m : ℕ) (p : Part) {next cuts longest : ℕ} {lack : Lack} (e : p ≡ part.Good next cuts longest lack) where
+module _ (m : ℕ) (p : Result Part Refusal) {next cuts longest : ℕ} {lack : Option Lack} (e : p ≡ Good next cuts longest lack) where
   -- so is a refusal at its end
-  pub judged_end : {why : Refusal} → end_verdict m next lack ≡ verdict.Refused why → Judged m p (Refused why)
+  pub judged_end : {why : Refusal} → end_verdict m next lack ≡ verdict.Refused why → Judged m p (Err why)
   judged_end q = says_refused (ap (part_verdict m) e ∙ q) refl
 
   -- where its end is fine the tree is accepted
   pub judged_accepted : end_verdict m next lack ≡ verdict.Fine → Judged m p (Accepted cuts longest)
-  judged_accepted q = says_fine (ap (part_verdict m) e ∙ q) (sym (ap (λ (x : Part). success (figures x)) e))
+  judged_accepted q = says_fine (ap (part_verdict m) e ∙ q) (sym (ap (λ (x : Result Part Refusal). success (figures x)) e))
 
 -- ---- the whole check
 
 module _ (rs nodes pool : List ℕ) where
   -- words that are refused are the refusal
   pub words_refused :
-      {why : Refusal} → words_verdict rs nodes pool ≡ verdict.Refused why → TreeChecked rs nodes pool (Refused why)
+      {why : Refusal} → words_verdict rs nodes pool ≡ verdict.Refused why → TreeChecked rs nodes pool (Err why)
   unfolding check_verdict
   words_refused e = says_refused (then_refused _ e) refl
 
   -- where they are not refused the root's part decides
   pub part_decides :
-      words_verdict rs nodes pool ≡ verdict.Fine → {p : Part} {r : TreeAnswer} → p ≡ root_part rs nodes pool →
+      words_verdict rs nodes pool ≡ verdict.Fine → {p : Result Part Refusal} {r : Result Figures Refusal} → p ≡ root_part rs nodes pool →
       Judged (node_count nodes) p r → TreeChecked rs nodes pool r
   unfolding check_verdict
   part_decides e q j = says_after e (rw q at j)

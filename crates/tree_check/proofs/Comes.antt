@@ -1,4 +1,6 @@
 -- Where headers come to, in a tree whose root's part is built: each to one leaf, and it lies in that leaf's box.
+use Rattle.tree_check.specs.declared.preorder.Lack.{Lack}
+use Rattle.std.specs.Prelude.{Option}
 use Prim.Native.Nat.{ℕ}
 use native.Mathlib.Omega.{arith}
 use mathlib.Core.Bool.{false}
@@ -16,7 +18,6 @@ use Rattle.trees.specs.Words.{node_count, entries}
 use Rattle.trees.specs.Spelt.{SpeltLeaf, Spelt}
 use Rattle.trees.specs.Walk.{Walk, came, walk_of, leaf_of}
 use Rattle.trees.specs.Search.{leaf_list}
-use Rattle.tree_check.specs.declared.preorder.Lack.{Lack}
 use Rattle.tree_check.specs.Whole.{most_cuts}
 use Rattle.tree_check.specs.Leads.{Leads}
 use Rattle.tree_check.proofs.Built.{Built}
@@ -25,7 +26,7 @@ use Rattle.tree_check.proofs.Bounds.{Bounded, bounds}
 use Rattle.tree_check.proofs.Walks.{leads_walk}
 
 -- a good list, and a tree that is spelt and whose root's part is built, with these figures and this lack
-pub record Formed (rs nodes pool : List ℕ) (c l : ℕ) (y : Lack) : Type 0 where
+pub record Formed (rs nodes pool : List ℕ) (c l : ℕ) (y : Option Lack) : Type 0 where
   pub good : GoodRules largest_action rs
   pub spelt : Spelt (rule_count rs) nodes pool
   pub root : Built false rs nodes pool most_cuts root_box 0 (node_count nodes) c l y
@@ -35,7 +36,7 @@ pub point_of : (b : List (List ℕ)) → Full field_count b → CommonPoint fiel
 point_of b f =
     (meets_iff_common_point field_count b b f f).0 ((overlap_iff field_count b b).1 (λ g l. (f g l, f g l)))
 
-module _ {rs nodes pool : List ℕ} {c l : ℕ} {y : Lack} (t : Formed rs nodes pool c l y) where
+module _ {rs nodes pool : List ℕ} {c l : ℕ} {y : Option Lack} (t : Formed rs nodes pool c l y) where
   -- a legal header lies in the box of some leaf
   pub finds : (h : List ℕ) → Legal h → WayOf nodes root_box 0 h
   finds h k = find t.root root_pairs h ((legal_iff_in_root h).0 k).1

@@ -1,5 +1,8 @@
 -- Refusal 8: it is given exactly where the tree is well formed and a legal header gets a wrong list; and it names the
 -- lowest leaf that lacks a rule, with the lowest rule that it lacks.
+use Rattle.tree_check.specs.declared.preorder.Lack.{Lack}
+use Rattle.tree_check.specs.Said.{Complete, Lacks}
+use Rattle.std.specs.Prelude.{Option, Some}
 use Prim.Native.Nat.{ℕ}
 use native.Mathlib.Omega.{arith}
 use mathlib.Core.Path.{◌≡◌, refl, ap, ◌∙◌}
@@ -7,9 +10,7 @@ use mathlib.Core.Logic.{◌↔◌}
 use mathlib.Core.List.{List}
 use Rattle.facts.proofs.Bools.{clash}
 use Rattle.refusals.specs.declared.Refusal.TheVariants.{LeafLacksRule}
-use Rattle.refusals.specs.declared.Verdict.TheVariants.{Refused}
-use Rattle.tree_check.specs.declared.preorder.Lack.{Lack}
-use Rattle.tree_check.specs.declared.preorder.Lack.TheVariants.{Complete, Lacks}
+use Rattle.refusals.specs.Verdict.{Refused}
 use Rattle.tree_check.specs.TreeCheck.{lack_verdict, check_verdict}
 use Rattle.tree_check.specs.Lacks.{LacksRule, Misleads}
 use Rattle.tree_check.proofs.OneLack.{lacks_first, lack_is_first}
@@ -17,9 +18,12 @@ use Rattle.tree_check.proofs.Agreement.{witness, listed_of_right, agrees_of_comp
 use Rattle.tree_check.proofs.Stages.{Reached, reached, lack_decides, formed, proper, reaches}
 
 -- a lack that is refused with 8 is the one named
-pub lack_eight : (y : Lack) {i r : ℕ} → lack_verdict y ≡ Refused (LeafLacksRule i r) → y ≡ Lacks i r
+pub lack_eight : (y : Option Lack) {i r : ℕ} → lack_verdict y ≡ Refused (LeafLacksRule i r) → y ≡ Lacks i r
 lack_eight Complete e = let z : ◌≡◌ {A = ℕ} 0 1 = cc in absurd (omega arith)
-lack_eight (Lacks j q) e = cc
+lack_eight (Some p) {i} {r} e =
+    let at : p.node ≡ i = cc in
+    let lacked : p.rule ≡ r = cc in
+    ap (λ n. Lacks n p.rule) at ∙ ap (Lacks i) lacked
 
 -- where 8 is given the root's part is reached, with that lack
 eight_reached :
@@ -53,12 +57,12 @@ module _ (rs nodes pool : List ℕ) where
       of : Misleads rs nodes pool → (i : ℕ) × (r : ℕ) × (check_verdict rs nodes pool ≡ Refused (LeafLacksRule i r))
       of m = go t.2 refl
         where
-          t : (c : ℕ) × (l : ℕ) × (y : Lack) × Reached rs nodes pool c l y
+          t : (c : ℕ) × (l : ℕ) × (y : Option Lack) × Reached rs nodes pool c l y
           t = reaches m.proper
 
-          go : (y : Lack) → t.2 ≡ y → (i : ℕ) × (r : ℕ) × (check_verdict rs nodes pool ≡ Refused (LeafLacksRule i r))
+          go : (y : Option Lack) → t.2 ≡ y → (i : ℕ) × (r : ℕ) × (check_verdict rs nodes pool ≡ Refused (LeafLacksRule i r))
           go Complete e = absurd (m.wrong (agrees_of_complete (formed t.3) e m.header m.legal))
-          go (Lacks i r) e = (i, r, lack_decides t.3 ∙ ap lack_verdict e)
+          go (Some p) e = (p.node, p.rule, lack_decides t.3 ∙ ap lack_verdict e)
 
   -- 8 with leaf i and rule r is given exactly where the list is good, the sizes hold, the tree is well formed, i is the
   -- lowest leaf that lacks a rule, and r the lowest rule that it lacks

@@ -1,4 +1,6 @@
 -- The figures of a tree whose root's part is built: they bound every legal header's walk and leaf, and each is met.
+use Rattle.tree_check.specs.declared.preorder.Lack.{Lack}
+use Rattle.std.specs.Prelude.{Option}
 use Prim.Native.Nat.{ℕ, suc, ◌+◌, ◌≤◌}
 use native.Mathlib.Omega.{arith}
 use mathlib.Core.Bool.{Bool, true, false, cond}
@@ -11,13 +13,12 @@ use Rattle.fields.specs.Boxes.{Inside, root_box}
 use Rattle.trees.specs.Words.{entries}
 use Rattle.trees.specs.Walk.{walk_of, visited}
 use Rattle.trees.specs.Search.{leaf_list, looked_at}
-use Rattle.tree_check.specs.declared.preorder.Lack.{Lack}
 use Rattle.tree_check.specs.Leads.{Leads}
 use Rattle.tree_check.specs.Figures.{Figures}
 use Rattle.tree_check.proofs.Bounds.{deepest, longest}
 use Rattle.tree_check.proofs.Comes.{Formed, point_of, finds, bounded, box_full, legal, comes, list_is}
 
-module _ {rs nodes pool : List ℕ} {c l : ℕ} {y : Lack} (t : Formed rs nodes pool c l y) where
+module _ {rs nodes pool : List ℕ} {c l : ℕ} {y : Option Lack} (t : Formed rs nodes pool c l y) where
   module _ {cuts : List ℕ} {x : ℕ} {d : List (List ℕ)} (w : Leads nodes root_box 0 cuts x d) where
     visits_at : (h : List ℕ) → Inside field_count d h → visited (walk_of nodes h) ≡ length cuts + 1
     visits_at h inside = ap visited (comes t w h inside)

@@ -1,4 +1,7 @@
 -- The first lack of a built part: none exactly where no leaf lacks a rule, else that of its lowest leaf that does.
+use Rattle.tree_check.specs.declared.preorder.Lack.{Lack}
+use Rattle.tree_check.specs.Said.{Complete, Lacks}
+use Rattle.std.specs.Prelude.{Option, Some}
 use Prim.Native.Nat.{ℕ, ◌+◌, ◌≤◌, ◌<◌}
 use native.Mathlib.Omega.{arith}
 use mathlib.Core.Bool.{Bool}
@@ -6,8 +9,6 @@ use mathlib.Core.Path.{◌≡◌, refl, sym, subst, ◌∙◌}
 use mathlib.Core.Logic.{◌↔◌}
 use mathlib.Core.List.{List, [], ◌∷◌}
 use Rattle.trees.specs.Words.{leaf_mark, node_count, field_of, child_of, entries}
-use Rattle.tree_check.specs.declared.preorder.Lack.{Lack}
-use Rattle.tree_check.specs.declared.preorder.Lack.TheVariants.{Complete, Lacks}
 use Rattle.tree_check.specs.Preorder.{lack_of, child_at, earlier}
 use Rattle.tree_check.specs.Leads.{left_box, right_box, Divides, Leads, here, to_left, to_right}
 use Rattle.tree_check.proofs.Built.{Built, of_none, of_leaf, of_cut, built_forward}
@@ -16,14 +17,14 @@ use Rattle.tree_check.proofs.Bounds.{bounds}
 use Rattle.tree_check.proofs.Lacks.{lacks_not_complete, lack_means}
 
 -- of two lacks the earlier is none exactly where both are
-pub earlier_iff : (y z : Lack) → (earlier y z ≡ Complete) ↔ ((y ≡ Complete) × (z ≡ Complete))
+pub earlier_iff : (y z : Option Lack) → (earlier y z ≡ Complete) ↔ ((y ≡ Complete) × (z ≡ Complete))
 earlier_iff Complete z = (λ e. (refl, e), λ t. t.1)
-earlier_iff (Lacks i r) z = (λ e. lacks_not_complete e, λ t. t.0)
+earlier_iff (Some lack) z = (λ e. lacks_not_complete e, λ t. t.0)
 
 module _ {far : Bool} {rs nodes pool : List ℕ} where
   -- where a built part has no lack, none of its leaves has
   pub complete_at :
-      {k : ℕ} {b d : List (List ℕ)} {i e c l x : ℕ} {y : Lack} {cuts : List ℕ} →
+      {k : ℕ} {b d : List (List ℕ)} {i e c l x : ℕ} {y : Option Lack} {cuts : List ℕ} →
       Built far rs nodes pool k b i e c l y → y ≡ Complete → Leads nodes b i cuts x d →
       lack_of rs (entries nodes pool x) d x ≡ Complete
   complete_at (of_none z a) q w = absurd (omega (arith, leads_there w))
@@ -37,7 +38,7 @@ module _ {far : Bool} {rs nodes pool : List ℕ} where
 
   -- where none of the leaves of a built part has a lack, the part has none
   pub complete_of_each :
-      {k : ℕ} {b : List (List ℕ)} {i e c l : ℕ} {y : Lack} → Built far rs nodes pool k b i e c l y →
+      {k : ℕ} {b : List (List ℕ)} {i e c l : ℕ} {y : Option Lack} → Built far rs nodes pool k b i e c l y →
       ((cuts : List ℕ) (x : ℕ) (d : List (List ℕ)) → Leads nodes b i cuts x d →
       lack_of rs (entries nodes pool x) d x ≡ Complete) →
       y ≡ Complete
@@ -81,7 +82,7 @@ module _ {rs nodes pool : List ℕ} where
       none p z d' (to_left d w) l = absurd (omega (arith, d.field))
       none p z d' (to_right d o w) l = absurd (omega (arith, d.field))
 
-  module _ (far : Bool) {k : ℕ} {b : List (List ℕ)} {i m e c₁ l₁ c₂ l₂ x r : ℕ} {y₁ y₂ : Lack} (d : Divides nodes b i)
+  module _ (far : Bool) {k : ℕ} {b : List (List ℕ)} {i m e c₁ l₁ c₂ l₂ x r : ℕ} {y₁ y₂ : Option Lack} (d : Divides nodes b i)
       (s : Built far rs nodes pool k (left_box nodes b i) (i + 1) m c₁ l₁ y₁)
       (n : child_of nodes i ≡ child_at far (node_count nodes) m)
       (t : Built far rs nodes pool k (right_box nodes b i) m e c₂ l₂ y₂) where
@@ -113,7 +114,7 @@ module _ {rs nodes pool : List ℕ} where
 
   -- where a built part has a lack, it is that of its lowest leaf that lacks a rule
   pub first_lack :
-      {far : Bool} {k : ℕ} {b : List (List ℕ)} {i e c l x r : ℕ} {y : Lack} → Built far rs nodes pool k b i e c l y →
+      {far : Bool} {k : ℕ} {b : List (List ℕ)} {i e c l x r : ℕ} {y : Option Lack} → Built far rs nodes pool k b i e c l y →
       y ≡ Lacks x r → FirstLack rs nodes pool b i x r
   first_lack (of_none z a) q = lacks_not_complete (sym q)
   first_lack (of_leaf {b = b} {i = i} a f r) q = leaf_first a f (lack_means rs nodes pool b i q).0 q
@@ -121,7 +122,7 @@ module _ {rs nodes pool : List ℕ} where
       go y₁ refl (λ e. first_lack s e) (λ e. first_lack t e)
     where
       go :
-          (y : Lack) → y₁ ≡ y → (y₁ ≡ Lacks x r → FirstLack rs nodes pool (left_box nodes b i) (i + 1) x r) →
+          (y : Option Lack) → y₁ ≡ y → (y₁ ≡ Lacks x r → FirstLack rs nodes pool (left_box nodes b i) (i + 1) x r) →
           (y₂ ≡ Lacks x r → FirstLack rs nodes pool (right_box nodes b i) m x r) → FirstLack rs nodes pool b i x r
       go Complete o u v = right_first far d s n t o (v (rw o at q))
-      go (Lacks j p) o u v = left_first far d s n t (u (o ∙ (rw o at q)))
+      go (Some p) o u v = left_first far d s n t (u (o ∙ (rw o at q)))

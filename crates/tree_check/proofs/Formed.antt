@@ -1,4 +1,7 @@
 -- The check of a part accepts exactly the well-formed parts, where the first words of the nodes are in order.
+use Rattle.tree_check.specs.declared.preorder.Lack.{Lack}
+use Rattle.tree_check.specs.Said.{Good}
+use Rattle.std.specs.Prelude.{Option}
 use Prim.Native.Nat.{ℕ, suc, ◌+◌, ◌≤◌, ◌<◌, max}
 use native.Mathlib.Omega.{arith}
 use mathlib.Core.Bool.{Bool, true, false, false≢true}
@@ -9,8 +12,6 @@ use borrow.Author.Tests.{eq-eqb}
 use Rattle.facts.specs.Lists.{rises}
 use Rattle.fields.proofs.Cuts.{divides_iff}
 use Rattle.trees.specs.Words.{leaf_mark, node_count, field_of, value_of, child_of, entries}
-use Rattle.tree_check.specs.declared.preorder.Lack.{Lack}
-use Rattle.tree_check.specs.declared.preorder.Part.TheVariants.{Good}
 use Rattle.tree_check.specs.Whole.{Whole, leaf, cut}
 use Rattle.tree_check.specs.Preorder.{lack_of, earlier, child_at, preorder_of}
 use Rattle.tree_check.specs.Leads.{left_box, right_box, Divides}
@@ -23,7 +24,7 @@ FirstWords nodes = (i : ℕ) → i < node_count nodes → field_of nodes i ≤ l
 
 -- a built part is well formed
 pub whole_of_built :
-    {rs nodes pool : List ℕ} {k : ℕ} {b : List (List ℕ)} {i e c l : ℕ} {y : Lack} → FirstWords nodes →
+    {rs nodes pool : List ℕ} {k : ℕ} {b : List (List ℕ)} {i e c l : ℕ} {y : Option Lack} → FirstWords nodes →
     Built false rs nodes pool k b i e c l y → Whole nodes pool k b i e
 whole_of_built first (of_none q a) = absurd (false≢true q)
 whole_of_built first (of_leaf {i = i} a f r) = leaf a (omega (arith, first i a)) r
@@ -34,7 +35,7 @@ whole_of_built first (of_cut d p q r) =
 pub record Accepts (far : Bool) (rs nodes pool : List ℕ) (k : ℕ) (b : List (List ℕ)) (i e : ℕ) : Type 0 where
   pub cuts : ℕ
   pub longest : ℕ
-  pub lack : Lack
+  pub lack : Option Lack
   pub says : preorder_of far k rs nodes pool b i ≡ Good e cuts longest lack
 
 module _ (far : Bool) (rs nodes pool : List ℕ) (k : ℕ) (b : List (List ℕ)) (i : ℕ) where

@@ -1,5 +1,8 @@
 -- The preorder check of a part so far accepts exactly the parts that are well formed so far, where the first words of
 -- the nodes are in order; and a well-formed tree is well formed so far.
+use Rattle.tree_check.specs.declared.preorder.Lack.{Lack}
+use Rattle.tree_check.specs.Said.{Complete}
+use Rattle.std.specs.Prelude.{Option}
 use Prim.Native.Nat.{ℕ, ◌≤◌, ◌<◌}
 use native.Mathlib.Omega.{arith}
 use mathlib.Core.Bool.{true}
@@ -7,8 +10,6 @@ use mathlib.Core.Path.{sym, ◌∙◌}
 use mathlib.Core.Logic.{◌↔◌}
 use mathlib.Core.List.{List}
 use Rattle.trees.specs.Words.{node_count}
-use Rattle.tree_check.specs.declared.preorder.Lack.{Lack}
-use Rattle.tree_check.specs.declared.preorder.Lack.TheVariants.{Complete}
 use Rattle.tree_check.specs.Whole as whole
 use Rattle.tree_check.specs.Whole.{Whole}
 use Rattle.tree_check.specs.SoFar.{SoFar, none, leaf, cut}
@@ -19,7 +20,7 @@ use Rattle.tree_check.proofs.Formed.{FirstWords, Accepts, leaf_accepts, cut_acce
 
 -- a built part so far is well formed so far
 pub so_far_of_built :
-    {rs nodes pool : List ℕ} {k : ℕ} {b : List (List ℕ)} {i e c l : ℕ} {y : Lack} → FirstWords nodes →
+    {rs nodes pool : List ℕ} {k : ℕ} {b : List (List ℕ)} {i e c l : ℕ} {y : Option Lack} → FirstWords nodes →
     Built true rs nodes pool k b i e c l y → SoFar nodes pool k b i e
 so_far_of_built first (of_none q a) = none a
 so_far_of_built first (of_leaf {i = i} a f r) = leaf a (omega (arith, first i a)) r

@@ -1,11 +1,12 @@
 -- What the answers of the searches by an accepted tree mean: what is listed is what matches, the first is the lowest
 -- match, and none means none.
+use Rattle.trees.specs.Answers.{Found, NoRule, Rule}
 use Prim.Native.Nat.{ℕ}
 use mathlib.Core.Path.{◌≡◌, refl, sym, ap, ◌∙◌}
 use mathlib.Core.List.{List, [], ◌∷◌}
 use lib.ListN.{length}
 use Rattle.facts.specs.Lists.{written}
-use Rattle.refusals.specs.declared.Verdict.TheVariants.{Fine}
+use Rattle.refusals.specs.Verdict.{Fine}
 use Rattle.refusals.proofs.Order.{then_fine_iff}
 use Rattle.refusals.proofs.Promises.{said_by, fine_by, left_written}
 use Rattle.fields.specs.Headers.{Legal}
@@ -14,8 +15,6 @@ use Rattle.rules.specs.Matching.{matching}
 use Rattle.rules.specs.LineFirst.{first_of}
 use Rattle.rules.specs.Found.{AllMatches, FirstMatch, NoMatch}
 use Rattle.rules.proofs.Listing.{all_found, first_found, none_found}
-use Rattle.trees.specs.declared.search.TreeListed.TheVariants.{Found}
-use Rattle.trees.specs.declared.search.TreeFirst.TheVariants.{Rule, NoRule}
 use Rattle.trees.specs.Search.{reach_verdict, tree_list}
 use Rattle.trees.specs.TreeAll.{tree_all_verdict, all_values, TreeAllSearched}
 use Rattle.trees.specs.TreeFirst.{first_values, TreeFirstSearched}

@@ -1,14 +1,15 @@
 -- THE THEOREMS of the part check: it is fine exactly where a compile may go on; 8 names the lowest leaf so far that
 -- lacks a rule; and a compile may go on from an accepted tree.
+use Rattle.tree_check.specs.declared.preorder.Lack.{Lack}
+use Rattle.tree_check.specs.Said.{Lacks}
+use Rattle.std.specs.Prelude.{Option}
 use Prim.Native.Nat.{ℕ}
 use mathlib.Core.Path.{◌≡◌, refl, ap, ◌∙◌}
 use mathlib.Core.Logic.{◌↔◌}
 use mathlib.Core.List.{List}
 use Rattle.refusals.specs.declared.Refusal.TheVariants.{LeafLacksRule}
-use Rattle.refusals.specs.declared.Verdict.TheVariants.{Fine, Refused}
+use Rattle.refusals.specs.Verdict.{Fine, Refused}
 use Rattle.rules.specs.Words.{rule_count}
-use Rattle.tree_check.specs.declared.preorder.Lack.{Lack}
-use Rattle.tree_check.specs.declared.preorder.Lack.TheVariants.{Lacks}
 use Rattle.tree_check.specs.SoFar.{ProperSoFar}
 use Rattle.tree_check.specs.MayGoOn.{MayGoOn, LacksSoFar}
 use Rattle.tree_check.specs.TreeCheck.{lack_verdict, check_verdict}
@@ -24,7 +25,7 @@ use Rattle.tree_check.proofs.PartStages.{Taken, part_reached, part_taken, taken_
 
 module _ {rs : List ℕ} {n : ℕ} {nodes pool : List ℕ} where
   -- where the root's part so far is reached, all is proper so far
-  pub taken_proper : {c l : ℕ} {y : Lack} → Taken rs n nodes pool c l y → ProperSoFar rs n nodes pool
+  pub taken_proper : {c l : ℕ} {y : Option Lack} → Taken rs n nodes pool c l y → ProperSoFar rs n nodes pool
   taken_proper t =
       record {
         list = t.list;
@@ -34,7 +35,7 @@ module _ {rs : List ℕ} {n : ℕ} {nodes pool : List ℕ} where
       }
 
   -- where all is proper so far, the root's part so far is reached
-  pub takes : ProperSoFar rs n nodes pool → (c : ℕ) × (l : ℕ) × (y : Lack) × Taken rs n nodes pool c l y
+  pub takes : ProperSoFar rs n nodes pool → (c : ℕ) × (l : ℕ) × (y : Option Lack) × Taken rs n nodes pool c l y
   takes p =
       let a = accepts_of_so_far rs p.formed.preorder in (
         a.cuts,

@@ -1,8 +1,11 @@
 -- What a leaf lacks, and the first lack of a built part: none exactly where no leaf lacks a rule.
+use Rattle.tree_check.specs.declared.preorder.Lack.{Lack}
+use Rattle.std.specs.Prelude.{Option, Some, None}
+use Rattle.tree_check.specs.Said.{Complete, Lacks}
 use Prim.Native.Nat.{ℕ, ◌≤◌, ◌<◌}
 use native.Mathlib.Omega.{arith}
 use mathlib.Core.Bool.{Bool, true, false, not, ◌&&◌}
-use mathlib.Core.Path.{◌≡◌, refl, sym, subst, ◌∙◌}
+use mathlib.Core.Path.{◌≡◌, refl, sym, subst, ◌∙◌, ap}
 use mathlib.Core.Logic.{◌↔◌}
 use mathlib.Core.List.{List}
 use borrow.Author.Tests.{lt-ltb, le-ltb, not-true}
@@ -16,13 +19,21 @@ use Rattle.rules.specs.Words.{rule_count}
 use Rattle.rules.specs.Matching.{rule_box}
 use Rattle.rules.specs.Lacking.{lacking, lowest_lacking}
 use Rattle.trees.specs.Words.{entries}
-use Rattle.tree_check.specs.declared.preorder.Lack.TheVariants.{Complete, Lacks}
 use Rattle.tree_check.specs.Preorder.{lack_of}
 use Rattle.tree_check.specs.Lacks.{LacksNone}
 
 -- a lack is not complete
 pub lacks_not_complete {ℓ} : {A : Type ℓ} {i r : ℕ} → Lacks i r ≡ Complete → A
 lacks_not_complete e = let z : ◌≡◌ {A = ℕ} 0 1 = cc in absurd (omega arith)
+
+-- the leaf and the rule of a lack
+abbrev node_in : Option Lack → ℕ
+node_in None = 0
+node_in (Some lack) = lack.node
+
+abbrev rule_in : Option Lack → ℕ
+rule_in None = 0
+rule_in (Some lack) = lack.rule
 
 -- of two tests not the first alone holds exactly where the first implies the second
 unless_iff : (a b : Bool) → ((a && not b) ≡ false) ↔ (a ≡ true → b ≡ true)
@@ -103,5 +114,4 @@ module _ (rs nodes pool : List ℕ) (d : List (List ℕ)) (x : ℕ) where
       go (at_most l) = lacks_not_complete (sym e ∙ lack_none l)
       go (over l) =
           let w : Lacks x low ≡ Lacks i r = sym (lack_there l) ∙ e in
-          let q : low ≡ r = cc in
-          (cc, subst LowestLack q (low_lacks l))
+          (ap node_in w, subst LowestLack (ap rule_in w) (low_lacks l))

@@ -1,4 +1,7 @@
 -- The figures of an accepted tree are the most cuts above a leaf, and the longest leaf.
+use Rattle.tree_check.specs.declared.preorder.Lack.{Lack}
+use Rattle.tree_check.specs.Said.{Accepted}
+use Rattle.std.specs.Prelude.{Option}
 use Prim.Native.Nat.{ℕ, ◌+◌, ◌≤◌, ◌<◌}
 use native.Mathlib.Omega.{arith}
 use mathlib.Core.Bool.{false, false≢true}
@@ -6,8 +9,6 @@ use mathlib.Core.Path.{◌≡◌}
 use mathlib.Core.List.{List, []}
 use Rattle.facts.proofs.Cases.{WithinOrOver, at_most, over, within_or_over}
 use Rattle.trees.specs.Words.{leaf_mark, field_of}
-use Rattle.tree_check.specs.declared.preorder.Lack.{Lack}
-use Rattle.tree_check.specs.declared.check.TreeAnswer.TheVariants.{Accepted}
 use Rattle.tree_check.specs.Leads.{left_box, right_box, here}
 use Rattle.tree_check.specs.TreeCheck.{TreeChecked}
 use Rattle.tree_check.specs.Figures.{LeafFigures}
@@ -20,7 +21,7 @@ use Rattle.tree_check.proofs.Answers.{accepted_means}
 module _ {rs nodes pool : List ℕ} where
   -- some way in a built part of a whole tree comes to each of its leaves
   way_to :
-      {k : ℕ} {b : List (List ℕ)} {i e c l : ℕ} {y : Lack} → Built false rs nodes pool k b i e c l y → (x : ℕ) →
+      {k : ℕ} {b : List (List ℕ)} {i e c l : ℕ} {y : Option Lack} → Built false rs nodes pool k b i e c l y → (x : ℕ) →
       leaf_mark ≤ field_of nodes x → i ≤ x → x < e → (w : Way nodes b i) × (w.at ≡ x)
   way_to (of_none z a) x f from below = absurd (false≢true z)
   way_to (of_leaf a g r) x f from below =

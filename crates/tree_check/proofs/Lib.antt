@@ -2,6 +2,7 @@
 pub mod NotLack
 pub mod Parts
 pub mod Looking
+pub mod Sorted
 pub mod Leaves
 pub mod Joining
 pub mod Checks

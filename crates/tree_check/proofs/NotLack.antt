@@ -7,8 +7,8 @@ use mathlib.Core.List.{List}
 use Rattle.refusals.specs.declared.Refusal.{Refusal}
 use Rattle.refusals.specs.declared.Refusal.TheVariants.{RuleHasTwin}
 use Rattle.refusals.specs.declared.Refusal.TheVariants.{TreeWordsWrong, NodeWrong, LeafWrong}
-use Rattle.refusals.specs.declared.Verdict.{Verdict}
-use Rattle.refusals.specs.declared.Verdict.TheVariants.{Fine, Refused}
+use Rattle.refusals.specs.Verdict.{Verdict}
+use Rattle.refusals.specs.Verdict.{Fine, Refused}
 use Rattle.refusals.specs.Table.{number_of}
 use Rattle.refusals.specs.Order.{◌then◌}
 use Rattle.rules.specs.Words.{rule_count, largest_action}

@@ -1,4 +1,7 @@
 -- The lowest leaf that lacks a rule: in a built tree there is one, and one lowest rule that it lacks.
+use Rattle.tree_check.specs.declared.preorder.Lack.{Lack}
+use Rattle.tree_check.specs.Said.{Complete, Lacks}
+use Rattle.std.specs.Prelude.{Option, Some}
 use Prim.Native.Nat.{ℕ, ◌<◌}
 use native.Mathlib.Omega.{arith}
 use mathlib.Core.Bool.{Bool}
@@ -7,8 +10,6 @@ use mathlib.Core.List.{List}
 use Rattle.facts.proofs.Bools.{clash}
 use Rattle.facts.proofs.Cases.{Order, below, same, above, order}
 use Rattle.fields.specs.Boxes.{root_box}
-use Rattle.tree_check.specs.declared.preorder.Lack.{Lack}
-use Rattle.tree_check.specs.declared.preorder.Lack.TheVariants.{Complete, Lacks}
 use Rattle.tree_check.specs.Leads.{Leads, here, to_left, to_right}
 use Rattle.tree_check.specs.Lacks.{LacksFirst}
 use Rattle.tree_check.proofs.Built.{Built, of_none, of_leaf, of_cut}
@@ -19,7 +20,7 @@ use Rattle.tree_check.proofs.FirstLack.{first_lack, complete_at}
 
 -- in a built part a leaf has one box
 pub leaf_box_unique :
-    {far : Bool} {rs nodes pool : List ℕ} {k : ℕ} {b d d' : List (List ℕ)} {i e c l x x' : ℕ} {y : Lack}
+    {far : Bool} {rs nodes pool : List ℕ} {k : ℕ} {b d d' : List (List ℕ)} {i e c l x x' : ℕ} {y : Option Lack}
     {cuts cuts' : List ℕ} → Built far rs nodes pool k b i e c l y → Leads nodes b i cuts x d →
     Leads nodes b i cuts' x' d' → x ≡ x' → d ≡ d'
 leaf_box_unique (of_none z a) w v q = absurd (omega (arith, leads_there w))
@@ -48,7 +49,7 @@ lower_leaf_clash {i = i} {r = r} f g l =
 
 -- in a built tree there is one lowest leaf that lacks a rule, and one lowest rule that it lacks
 pub lacks_first_unique :
-    {far : Bool} {rs nodes pool : List ℕ} {k e c l i i' r r' : ℕ} {y : Lack} →
+    {far : Bool} {rs nodes pool : List ℕ} {k e c l i i' r r' : ℕ} {y : Option Lack} →
     Built far rs nodes pool k root_box 0 e c l y → LacksFirst rs nodes pool i r → LacksFirst rs nodes pool i' r' →
     (i ≡ i') × (r ≡ r')
 lacks_first_unique {i = i} {i' = i'} {r = r} {r' = r'} t f g = leaf (order i i')
@@ -86,11 +87,11 @@ module _ {far : Bool} {rs nodes pool : List ℕ} {k e c l i r : ℕ} where
 
 -- where i is the lowest leaf of a built tree that lacks a rule, and r the lowest rule that it lacks, that is its lack
 pub lack_is_first :
-    {far : Bool} {rs nodes pool : List ℕ} {k e c l i r : ℕ} (y : Lack) → Built far rs nodes pool k root_box 0 e c l y →
+    {far : Bool} {rs nodes pool : List ℕ} {k e c l i r : ℕ} (y : Option Lack) → Built far rs nodes pool k root_box 0 e c l y →
     LacksFirst rs nodes pool i r → y ≡ Lacks i r
 lack_is_first {rs = rs} {nodes = nodes} {pool = pool} {i = i} {r = r} Complete t f =
     let none = (complete_iff rs nodes pool f.box i).0 (complete_at t refl f.way) in
     clash (none r f.rule f.meeting) f.unlisted
-lack_is_first (Lacks j q) t f =
+lack_is_first (Some p) t f =
     let same = lacks_first_unique t (lacks_first t) f in
     rw (same.0, same.1)

@@ -1,4 +1,6 @@
 -- The part check put together: the list and the sizes, the number of rules, the words, and then the root's part.
+use Rattle.tree_check.specs.declared.preorder.Part.{Part}
+use Rattle.std.specs.Prelude.{Result}
 use Prim.Native.Nat.{ℕ}
 use mathlib.Core.Bool.{true}
 use mathlib.Core.Path.{◌≡◌, sym, ap, subst, ◌∙◌}
@@ -7,8 +9,8 @@ use lib.Dec.{eqb}
 use borrow.Author.Tests.{eq-eqb, ne_eqb}
 use Rattle.refusals.specs.declared.Refusal.{Refusal}
 use Rattle.refusals.specs.declared.Refusal.TheVariants.{NodeWrong}
-use Rattle.refusals.specs.declared.Verdict.{Verdict}
-use Rattle.refusals.specs.declared.Verdict.TheVariants.{Fine, Refused}
+use Rattle.refusals.specs.Verdict.{Verdict}
+use Rattle.refusals.specs.Verdict.{Fine, Refused}
 use Rattle.refusals.specs.Order.{refuse_unless, ◌then◌}
 use Rattle.refusals.proofs.Order.{holds_fine, fails_refused, then_fine, then_refused, then_assoc}
 use Rattle.fields.specs.Boxes.{root_box}
@@ -17,7 +19,6 @@ use Rattle.rules.specs.Good.{list_verdict}
 use Rattle.trees.specs.Words.{node_count, size_verdict}
 use Rattle.trees.specs.Spelt.{Spelt, spelt_verdict}
 use Rattle.trees.proofs.Spelling.{spelt_fine_iff}
-use Rattle.tree_check.specs.declared.preorder.Part.{Part}
 use Rattle.tree_check.specs.Whole.{most_cuts}
 use Rattle.tree_check.specs.Preorder.{preorder_of}
 use Rattle.tree_check.specs.TreeCheck.{part_verdict, list_and_sizes}
@@ -66,7 +67,7 @@ module _ (rs : List ℕ) (n : ℕ) (nodes pool : List ℕ) where
 
       -- else the root's part decides
       pub root_decides :
-          spelt_verdict n nodes pool ≡ Fine → {p : Part} {r : Verdict} →
+          spelt_verdict n nodes pool ≡ Fine → {p : Result Part Refusal} {r : Verdict} →
           p ≡ preorder_of true most_cuts rs nodes pool root_box 0 → r ≡ part_verdict (node_count nodes) p →
           r ≡ so_far_verdict rs n nodes pool
       root_decides w a j = j ∙ ap (part_verdict (node_count nodes)) a ∙ sym (then_fine _ (said w)) ∙ words_decide

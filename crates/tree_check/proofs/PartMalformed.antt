@@ -8,8 +8,8 @@ use mathlib.Core.List.{List}
 use borrow.Author.Tests.{eq-eqb}
 use Rattle.refusals.specs.declared.Refusal.{Refusal}
 use Rattle.refusals.specs.declared.Refusal.TheVariants.{NodeWrong, LeafWrong}
-use Rattle.refusals.specs.declared.Verdict.{Verdict}
-use Rattle.refusals.specs.declared.Verdict.TheVariants.{Fine, Refused}
+use Rattle.refusals.specs.Verdict.{Verdict}
+use Rattle.refusals.specs.Verdict.{Fine, Refused}
 use Rattle.refusals.proofs.Order.{holds_fine, then_fine}
 use Rattle.refusals.proofs.Only.{Only, fine, refused, only_wider, then_only}
 use Rattle.fields.specs.Boxes.{root_box}

@@ -1,5 +1,8 @@
 -- The stages of the part check: it is fine, or says that a leaf lacks a rule, exactly where it reaches the root's part
 -- so far and accepts that, and the part's lack decides.
+use Rattle.tree_check.specs.declared.preorder.Lack.{Lack}
+use Rattle.tree_check.specs.Said.{Complete, Good}
+use Rattle.std.specs.Prelude.{Option}
 use Prim.Native.Nat.{ℕ}
 use native.Mathlib.Omega.{arith}
 use mathlib.Core.Bool.{true}
@@ -7,8 +10,8 @@ use mathlib.Core.Path.{◌≡◌, refl, ap, ◌∙◌}
 use mathlib.Core.List.{List}
 use borrow.Author.Tests.{eqb-true, eq-eqb}
 use Rattle.refusals.specs.declared.Refusal.TheVariants.{NodeWrong}
-use Rattle.refusals.specs.declared.Verdict.{Verdict}
-use Rattle.refusals.specs.declared.Verdict.TheVariants.{Fine}
+use Rattle.refusals.specs.Verdict.{Verdict}
+use Rattle.refusals.specs.Verdict.{Fine}
 use Rattle.refusals.proofs.Order.{holds_fine, fine_iff_holds, then_fine}
 use Rattle.refusals.proofs.Only.{only_wider, unless_only}
 use Rattle.fields.specs.Boxes.{root_box}
@@ -17,9 +20,6 @@ use Rattle.rules.specs.Good.{list_verdict}
 use Rattle.trees.specs.Words.{node_count, size_verdict}
 use Rattle.trees.specs.Spelt.{Spelt}
 use Rattle.trees.proofs.Spelling.{spelt_fine_iff}
-use Rattle.tree_check.specs.declared.preorder.Lack.{Lack}
-use Rattle.tree_check.specs.declared.preorder.Lack.TheVariants.{Complete}
-use Rattle.tree_check.specs.declared.preorder.Part.TheVariants.{Good}
 use Rattle.tree_check.specs.Whole.{most_cuts}
 use Rattle.tree_check.specs.Preorder.{preorder_of}
 use Rattle.tree_check.specs.TreeCheck.{lack_verdict, part_verdict}
@@ -31,7 +31,7 @@ use Rattle.tree_check.proofs.Stages.{part_last}
 use Rattle.tree_check.proofs.Accepts.{lack_fine}
 
 -- the stages before the last are fine, and the root's part so far is accepted, with these figures and this lack
-pub record Taken (rs : List ℕ) (n : ℕ) (nodes pool : List ℕ) (c l : ℕ) (y : Lack) : Type 0 where
+pub record Taken (rs : List ℕ) (n : ℕ) (nodes pool : List ℕ) (c l : ℕ) (y : Option Lack) : Type 0 where
   pub list : list_verdict rs ≡ Fine
   pub sizes : size_verdict nodes pool ≡ Fine
   pub count : n ≡ rule_count rs
@@ -42,7 +42,7 @@ module _ (rs : List ℕ) (n : ℕ) (nodes pool : List ℕ) where
   -- where the part check gives what only its last stage gives, it reached the root's part, whose lack decides
   pub part_reached :
       {u : Verdict} → Last u → so_far_verdict rs n nodes pool ≡ u →
-      (c : ℕ) × (l : ℕ) × (y : Lack) × Taken rs n nodes pool c l y × (lack_verdict y ≡ u)
+      (c : ℕ) × (l : ℕ) × (y : Option Lack) × Taken rs n nodes pool c l y × (lack_verdict y ≡ u)
   unfolding so_far_verdict
   part_reached last e =
       let s = then_last (list_no_lack rs) last e in
@@ -68,7 +68,7 @@ module _ (rs : List ℕ) (n : ℕ) (nodes pool : List ℕ) where
       let none = lack_fine t.2 t.4 in
       (t.0, t.1, rw none at t.3)
 
-module _ {rs : List ℕ} {n : ℕ} {nodes pool : List ℕ} {c l : ℕ} {y : Lack} (t : Taken rs n nodes pool c l y) where
+module _ {rs : List ℕ} {n : ℕ} {nodes pool : List ℕ} {c l : ℕ} {y : Option Lack} (t : Taken rs n nodes pool c l y) where
   -- where the part check reaches the root's part, the part's lack decides
   pub taken_decides : so_far_verdict rs n nodes pool ≡ lack_verdict y
   unfolding so_far_verdict

@@ -1,5 +1,7 @@
 -- The preorder check of a part, by what stands at its first node: no node, a leaf, a cut too deep, and a cut by its
 -- value. For whole trees and for trees so far, and then for whole trees.
+use Rattle.tree_check.specs.Said.{Good}
+use Rattle.std.specs.Prelude.{Err}
 use Prim.Native.Nat.{ℕ, zero, suc, ◌+◌, ◌≤◌, ◌<◌}
 use mathlib.Core.Bool.{Bool, true, false}
 use mathlib.Core.Path.{◌≡◌, ◌∙◌}
@@ -10,7 +12,6 @@ use Rattle.facts.specs.Lists.{rises}
 use Rattle.refusals.specs.declared.Refusal.TheVariants.{NodeWrong, LeafWrong}
 use Rattle.fields.specs.Cuts.{divides, left_of, right_of}
 use Rattle.trees.specs.Words.{leaf_mark, node_count, field_of, value_of, child_of, entries}
-use Rattle.tree_check.specs.declared.preorder.Part.TheVariants.{Refused, Good}
 use Rattle.tree_check.specs.Preorder.{lack_of, leaf_part, no_part, after_left, cut_part, node_part}
 use Rattle.tree_check.specs.Preorder.{preorder_of, part_of}
 
@@ -25,7 +26,7 @@ module _ (rs nodes pool : List ℕ) (b : List (List ℕ)) (i : ℕ) where
 
   -- a leaf whose entries do not rise is refused
   pub leaf_not_rising :
-      rises 0 (entries nodes pool i) ≡ false → leaf_part rs (entries nodes pool i) b i ≡ Refused (LeafWrong i)
+      rises 0 (entries nodes pool i) ≡ false → leaf_part rs (entries nodes pool i) b i ≡ Err (LeafWrong i)
   unfolding leaf_part
   leaf_not_rising e = rw e
 
@@ -47,7 +48,7 @@ module _ (far : Bool) (rs nodes pool : List ℕ) (b : List (List ℕ)) (i : ℕ)
 
     module _ (field : field_of nodes i < leaf_mark) where
       -- a cut where no more are allowed is refused
-      pub preorder_deep : preorder_of far 0 rs nodes pool b i ≡ Refused (NodeWrong i)
+      pub preorder_deep : preorder_of far 0 rs nodes pool b i ≡ Err (NodeWrong i)
       unfolding preorder_of node_part
       preorder_deep = rw (lt-ltb i (node_count nodes) there, lt-ltb (field_of nodes i) leaf_mark field)
 
@@ -60,7 +61,7 @@ module _ (far : Bool) (rs nodes pool : List ℕ) (b : List (List ℕ)) (i : ℕ)
       -- a cut whose value does not divide the box is refused
       pub preorder_undivided :
           (k : ℕ) → divides b (field_of nodes i) (value_of nodes i) ≡ false →
-          preorder_of far (suc k) rs nodes pool b i ≡ Refused (NodeWrong i)
+          preorder_of far (suc k) rs nodes pool b i ≡ Err (NodeWrong i)
       unfolding cut_part
       preorder_undivided k d = preorder_cut k ∙ rw d
 

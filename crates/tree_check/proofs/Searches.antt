@@ -1,12 +1,16 @@
 -- Searches by an accepted tree: they refuse what the line search refuses, and give what it gives.
+use Rattle.tree_check.specs.declared.preorder.Lack.{Lack}
+use Rattle.trees.specs.declared.search.Listed.{Listed}
+use Rattle.std.specs.Prelude.{Result, Option}
+use Rattle.refusals.specs.declared.Refusal.{Refusal}
 use Prim.Native.Nat.{ℕ, ◌+◌}
 use mathlib.Core.Path.{◌≡◌, refl, sym, ap, ◌∙◌}
 use mathlib.Core.List.{List}
 use lib.ListN.{length}
 use borrow.Author.Tests.{le-leb}
 use Rattle.facts.proofs.Under.{all_under_iff_has}
-use Rattle.refusals.specs.declared.Verdict.{Verdict}
-use Rattle.refusals.specs.declared.Verdict.TheVariants.{Fine, Refused}
+use Rattle.refusals.specs.Verdict.{Verdict}
+use Rattle.refusals.specs.Verdict.{Fine, Refused}
 use Rattle.refusals.specs.Paper.{success}
 use Rattle.refusals.specs.Order.{room_verdict, ◌then◌, ◌giving◌}
 use Rattle.refusals.proofs.Order.{holds_fine, then_fine, then_refused, giving_fine, giving_refused}
@@ -15,16 +19,13 @@ use Rattle.fields.specs.Headers.{header_verdict, Legal}
 use Rattle.rules.specs.Words.{rule_count}
 use Rattle.rules.specs.Good.{list_verdict}
 use Rattle.rules.specs.Matching.{matching}
-use Rattle.rules.specs.declared.line.Listed.{Listed}
 use Rattle.rules.specs.LineAll.{all_verdict, LineAllSearched}
 use Rattle.rules.specs.LineFirst.{first_of}
 use Rattle.trees.specs.Words.{start_of, count_of, entries}
-use Rattle.trees.specs.declared.search.TreeListed.{TreeListed}
 use Rattle.trees.specs.Walk.{Walk, leaf_of}
 use Rattle.trees.specs.Search.{walk_verdict, leaf_verdict, reach_verdict, tree_list}
 use Rattle.trees.specs.TreeAll.{tree_all_verdict, TreeAllSearched}
 use Rattle.trees.specs.Spelt.{SpeltLeaf}
-use Rattle.tree_check.specs.declared.preorder.Lack.{Lack}
 use Rattle.tree_check.specs.TreeCheck.{check_verdict}
 use Rattle.tree_check.proofs.Comes.{Formed, finds, leaf_of_lem, comes}
 use Rattle.tree_check.proofs.Agreement.{agrees_of_complete}
@@ -41,7 +42,7 @@ leaf_fine rs nodes pool i s =
 
 -- in a tree whose root's part is built no legal header is refused
 pub built_refuses_none :
-    {rs nodes pool : List ℕ} {c l : ℕ} {y : Lack} → Formed rs nodes pool c l y → (h : List ℕ) → Legal h →
+    {rs nodes pool : List ℕ} {c l : ℕ} {y : Option Lack} → Formed rs nodes pool c l y → (h : List ℕ) → Legal h →
     reach_verdict rs nodes pool h ≡ Fine
 unfolding reach_verdict
 built_refuses_none {rs} {nodes} {pool} t h k =
@@ -76,7 +77,7 @@ module _ (rs nodes pool : List ℕ) (ok : check_verdict rs nodes pool ≡ Fine) 
 
   -- it leaves in any lent words what the line search leaves
   pub same_words :
-      (h found : List ℕ) {r : TreeListed} {s : Listed} {v u : List ℕ} → TreeAllSearched rs nodes pool h found r v →
+      (h found : List ℕ) {r : Result Listed Refusal} {s : Result ℕ Refusal} {v u : List ℕ} → TreeAllSearched rs nodes pool h found r v →
       LineAllSearched rs h found s u → v ≡ u
   unfolding all_verdict
   same_words h found {v = v} {u = u} p q = go (header_verdict h) refl

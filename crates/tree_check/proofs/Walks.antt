@@ -1,4 +1,6 @@
 -- Walks in a built part: a header of a leaf's box walks the way to that leaf, and past the same cuts.
+use Rattle.tree_check.specs.declared.preorder.Lack.{Lack}
+use Rattle.std.specs.Prelude.{Option}
 use Prim.Native.Nat.{ℕ, zero, suc, ◌<◌}
 use native.Mathlib.Omega.{arith}
 use mathlib.Core.Bool.{false, false≢true}
@@ -11,7 +13,6 @@ use Rattle.trees.specs.declared.walk.Step.TheVariants.{Leaf}
 use Rattle.trees.specs.Words.{leaf_mark, node_count, field_of, child_of}
 use Rattle.trees.specs.Walk.{side_of, step_of, came, walk}
 use Rattle.trees.proofs.Walking.{goes_left, goes_right, step_leaf, step_on}
-use Rattle.tree_check.specs.declared.preorder.Lack.{Lack}
 use Rattle.tree_check.specs.Leads.{Leads, here, to_left, to_right}
 use Rattle.tree_check.proofs.Built.{Built, of_none, of_leaf, of_cut, built_forward}
 use Rattle.tree_check.proofs.Formed.{FirstWords}
@@ -32,7 +33,7 @@ module _ (nodes h : List ℕ) (k i : ℕ) where
 -- in a whole tree a header of a leaf's box walks to that leaf, past the cuts of the way, where as many nodes may be
 -- visited
 pub leads_walk :
-    {rs nodes pool : List ℕ} {k : ℕ} {b d : List (List ℕ)} {i e c l x : ℕ} {y : Lack} {cuts : List ℕ} →
+    {rs nodes pool : List ℕ} {k : ℕ} {b d : List (List ℕ)} {i e c l x : ℕ} {y : Option Lack} {cuts : List ℕ} →
     FirstWords nodes → Built false rs nodes pool k b i e c l y → Leads nodes b i cuts x d → Pairs field_count b →
     (h : List ℕ) → Inside field_count d h → (n : ℕ) → length cuts < n → walk n nodes h i ≡ came cuts x
 leads_walk first s w p h q zero l = absurd (omega arith)

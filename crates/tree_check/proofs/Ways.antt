@@ -1,5 +1,7 @@
 -- The ways from a node to the leaves of a box: a leaf's box lies in the first, and each header of the first lies in the
 -- box of one leaf.
+use Rattle.tree_check.specs.declared.preorder.Lack.{Lack}
+use Rattle.std.specs.Prelude.{Option}
 use Prim.Native.Nat.{ℕ, ◌+◌, ◌≤◌, ◌<◌}
 use native.Mathlib.Omega.{arith}
 use mathlib.Core.Bool.{false, false≢true}
@@ -12,7 +14,6 @@ use Rattle.fields.specs.Boxes.{Pairs, Inside, Full}
 use Rattle.fields.proofs.Cutting.{pairs_left, pairs_right, inside_left, inside_right, left_inside, right_inside}
 use Rattle.fields.proofs.Cutting.{full_left, full_right}
 use Rattle.trees.specs.Words.{field_of, value_of, child_of}
-use Rattle.tree_check.specs.declared.preorder.Lack.{Lack}
 use Rattle.tree_check.specs.Leads.{left_box, right_box, Divides, Leads, here, to_left, to_right}
 use Rattle.tree_check.proofs.Built.{Built, of_none, of_leaf, of_cut, built_forward}
 use Rattle.tree_check.proofs.Begun.{to_child}
@@ -87,7 +88,7 @@ WayOf nodes b i h = (w : Way nodes b i) × Inside field_count w.box h
 
 -- in a built part of a whole tree each header of its box lies in the box of a leaf
 pub find :
-    {rs nodes pool : List ℕ} {k : ℕ} {b : List (List ℕ)} {i e c l : ℕ} {y : Lack} →
+    {rs nodes pool : List ℕ} {k : ℕ} {b : List (List ℕ)} {i e c l : ℕ} {y : Option Lack} →
     Built false rs nodes pool k b i e c l y → Pairs field_count b → (h : List ℕ) → Inside field_count b h →
     WayOf nodes b i h
 find (of_none z a) p h q = absurd (false≢true z)

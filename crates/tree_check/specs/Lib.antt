@@ -1,6 +1,7 @@
 -- Well-formed trees, whole and so far, the preorder check, the tree check and the part check.
 pub mod Whole
 pub mod SoFar
+pub mod Said
 pub mod Preorder
 pub mod TreeCheck
 pub mod PartCheck

@@ -3,7 +3,7 @@
 --                                   not the list's number of rules; then *spelt*, the preorder walk so far, and 8
 use Rattle.std.specs.Prelude.{ℕ, true, List, eqb}
 use Rattle.refusals.specs.declared.Refusal.TheVariants.{NodeWrong}
-use Rattle.refusals.specs.declared.Verdict.{Verdict}
+use Rattle.refusals.specs.Verdict.{Verdict}
 use Rattle.refusals.specs.Order.{refuse_unless, ◌then◌}
 use Rattle.fields.specs.Boxes.{root_box}
 use Rattle.rules.specs.Words.{rule_count}

@@ -13,69 +13,71 @@
 --                                 that is there; a leaf; or a cut: its depth, its value, its left part, its child, its
 --                                 right part
 --   part_of k rs nodes pool b i    the same in a whole tree
-use Rattle.std.specs.Prelude.{ℕ, zero, suc, ◌+◌, max, Bool, true, false, cond, List, length, ltb, eqb}
+use Rattle.tree_check.specs.declared.preorder.Part.{Part}
+use Rattle.tree_check.specs.declared.preorder.Lack.{Lack}
+use Rattle.tree_check.specs.Said.{Complete, Good, Lacks}
+use Rattle.refusals.specs.declared.Refusal.{Refusal}
+use Rattle.std.specs.Prelude.{ℕ, zero, suc, ◌+◌, max, Bool, true, false, cond, List, length, ltb, eqb, Err, Option, Result, Ok, Some}
 use Rattle.facts.specs.Lists.{rises}
 use Rattle.refusals.specs.declared.Refusal.TheVariants.{NodeWrong, LeafWrong}
 use Rattle.fields.specs.Cuts.{divides, left_of, right_of}
 use Rattle.rules.specs.Words.{rule_count}
 use Rattle.rules.specs.Lacking.{lowest_lacking}
 use Rattle.trees.specs.Words.{leaf_mark, node_count, field_of, value_of, child_of, entries}
-use Rattle.tree_check.specs.declared.preorder.Lack.{Lack}
-use Rattle.tree_check.specs.declared.preorder.Lack.TheVariants.{Complete, Lacks}
-use Rattle.tree_check.specs.declared.preorder.Part.{Part}
-use Rattle.tree_check.specs.declared.preorder.Part.TheVariants.{Refused, Good}
 
 -- by a test, one of two; each waits until it is picked
-abbrev pub pick : Bool → (Unit {0} → Part) → (Unit {0} → Part) → Part
+abbrev pub pick : Bool → (Unit {0} → Result Part Refusal) → (Unit {0} → Result Part Refusal) → Result Part Refusal
 pick true f g = f tt
 pick false f g = g tt
 
-unfoldable pub lack_of : List ℕ → List ℕ → List (List ℕ) → ℕ → Lack
+unfoldable pub lack_of : List ℕ → List ℕ → List (List ℕ) → ℕ → Option Lack
 lack_of rs l b i = let r = lowest_lacking rs l b in cond (ltb r (rule_count rs)) (Lacks i r) Complete
 
-unfoldable pub leaf_part : List ℕ → List ℕ → List (List ℕ) → ℕ → Part
-leaf_part rs l b i = cond (rises 0 l) (Good (i + 1) 0 (length l) (lack_of rs l b i)) (Refused (LeafWrong i))
+unfoldable pub leaf_part : List ℕ → List ℕ → List (List ℕ) → ℕ → Result Part Refusal
+leaf_part rs l b i = cond (rises 0 l) (Good (i + 1) 0 (length l) (lack_of rs l b i)) (Err (LeafWrong i))
 
-abbrev pub earlier : Lack → Lack → Lack
+abbrev pub earlier : Option Lack → Option Lack → Option Lack
 earlier Complete other = other
-earlier (Lacks i r) other = Lacks i r
+earlier (Some lack) other = Some lack
 
-abbrev pub after_right : ℕ → ℕ → Lack → Part → Part
-after_right cuts longest lack (Refused why) = Refused why
-after_right cuts longest lack (Good next c l y) = Good next (max cuts c + 1) (max longest l) (earlier lack y)
+abbrev pub after_right : ℕ → ℕ → Option Lack → Result Part Refusal → Result Part Refusal
+after_right cuts longest lack (Err why) = Err why
+after_right cuts longest lack (Ok part) =
+    Good part.next (max cuts part.cuts + 1) (max longest part.longest) (earlier lack part.lack)
 
-abbrev pub no_part : Bool → ℕ → Part
+abbrev pub no_part : Bool → ℕ → Result Part Refusal
 no_part true i = Good i 0 0 Complete
-no_part false i = Refused (NodeWrong i)
+no_part false i = Err (NodeWrong i)
 
 abbrev pub child_at : Bool → ℕ → ℕ → ℕ
 child_at true m next = cond (ltb next m) next 0
 child_at false m next = next
 
-abbrev pub after_left : Bool → ℕ → ℕ → ℕ → Part → (ℕ → Part) → Part
-after_left far m at child (Refused why) right = Refused why
-after_left far m at child (Good next cuts longest lack) right =
-    pick (eqb child (child_at far m next)) (λ _. after_right cuts longest lack (right next)) (λ _. Refused (NodeWrong at))
+abbrev pub after_left : Bool → ℕ → ℕ → ℕ → Result Part Refusal → (ℕ → Result Part Refusal) → Result Part Refusal
+after_left far m at child (Err why) right = Err why
+after_left far m at child (Ok left) right =
+    pick (eqb child (child_at far m left.next)) (λ _. after_right left.cuts left.longest left.lack (right left.next))
+    (λ _. Err (NodeWrong at))
 
-unfoldable pub cut_part : Bool → List ℕ → List (List ℕ) → ℕ → (List (List ℕ) → ℕ → Part) → Part
+unfoldable pub cut_part : Bool → List ℕ → List (List ℕ) → ℕ → (List (List ℕ) → ℕ → Result Part Refusal) → Result Part Refusal
 cut_part far nodes b i part =
     pick (divides b (field_of nodes i) (value_of nodes i))
     (λ _.
     after_left far (node_count nodes) i (child_of nodes i)
     (part (left_of b (field_of nodes i) (value_of nodes i)) (i + 1))
     (λ next. part (right_of b (field_of nodes i) (value_of nodes i)) next))
-    (λ _. Refused (NodeWrong i))
+    (λ _. Err (NodeWrong i))
 
-unfoldable pub node_part : Bool → List ℕ → List ℕ → List ℕ → List (List ℕ) → ℕ → (Unit {0} → Part) → Part
+unfoldable pub node_part : Bool → List ℕ → List ℕ → List ℕ → List (List ℕ) → ℕ → (Unit {0} → Result Part Refusal) → Result Part Refusal
 node_part far rs nodes pool b i cut =
     pick (ltb i (node_count nodes))
     (λ _. pick (ltb (field_of nodes i) leaf_mark) cut (λ _. leaf_part rs (entries nodes pool i) b i))
     (λ _. no_part far i)
 
-unfoldable pub preorder_of : Bool → ℕ → List ℕ → List ℕ → List ℕ → List (List ℕ) → ℕ → Part
-preorder_of far zero rs nodes pool b i = node_part far rs nodes pool b i (λ _. Refused (NodeWrong i))
+unfoldable pub preorder_of : Bool → ℕ → List ℕ → List ℕ → List ℕ → List (List ℕ) → ℕ → Result Part Refusal
+preorder_of far zero rs nodes pool b i = node_part far rs nodes pool b i (λ _. Err (NodeWrong i))
 preorder_of far (suc k) rs nodes pool b i =
     node_part far rs nodes pool b i (λ _. cut_part far nodes b i (preorder_of far k rs nodes pool))
 
-abbrev pub part_of : ℕ → List ℕ → List ℕ → List ℕ → List (List ℕ) → ℕ → Part
+abbrev pub part_of : ℕ → List ℕ → List ℕ → List ℕ → List (List ℕ) → ℕ → Result Part Refusal
 part_of k rs nodes pool b i = preorder_of false k rs nodes pool b i

@@ -7,7 +7,7 @@
 --                                  formed so far
 use Rattle.std.specs.Prelude.{ℕ, suc, ◌+◌, ◌≤◌, ◌<◌, true, cond, ◌≡◌, List, ltb}
 use Rattle.facts.specs.Lists.{rises}
-use Rattle.refusals.specs.declared.Verdict.TheVariants.{Fine}
+use Rattle.refusals.specs.Verdict.{Fine}
 use Rattle.fields.specs.Boxes.{low_of, high_of, root_box}
 use Rattle.fields.specs.Cuts.{left_of, right_of}
 use Rattle.rules.specs.Words.{rule_count}

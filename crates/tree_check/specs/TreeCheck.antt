@@ -8,11 +8,16 @@
 --   check_verdict    those, then the preorder walk, then 8
 --   figures p        the most cuts above a leaf of the part p, and its longest leaf
 --   TreeChecked      the promise: what check_verdict refuses; else the figures of the root's part
-use Rattle.std.specs.Prelude.{ℕ, List, [], ◌∷◌, eqb}
+use Rattle.tree_check.specs.declared.preorder.Part.{Part}
+use Rattle.tree_check.specs.declared.preorder.Lack.{Lack}
+use Rattle.tree_check.specs.declared.check.Figures.{Figures}
+use Rattle.tree_check.specs.Said.{Complete}
+use Rattle.refusals.specs.declared.Refusal.{Refusal}
+use Rattle.std.specs.Prelude.{ℕ, List, [], ◌∷◌, eqb, Err, Option, Result, Ok, Some}
 use Rattle.refusals.specs.declared.Refusal.TheVariants.{NodeWrong, LeafLacksRule}
-use Rattle.refusals.specs.declared.Verdict.{Verdict}
-use Rattle.refusals.specs.declared.Verdict.TheVariants as verdict
-use Rattle.refusals.specs.Paper.{Paper, success, on_paper}
+use Rattle.refusals.specs.Verdict.{Verdict}
+use Rattle.refusals.specs.Verdict as verdict
+use Rattle.refusals.specs.Paper.{Paper, said}
 use Rattle.refusals.specs.Order.{refuse_unless, ◌then◌}
 use Rattle.refusals.specs.Promises.{Says}
 use Rattle.fields.specs.Boxes.{root_box}
@@ -20,36 +25,29 @@ use Rattle.rules.specs.Words.{rule_count}
 use Rattle.rules.specs.Good.{list_verdict}
 use Rattle.trees.specs.Words.{node_count, size_verdict}
 use Rattle.trees.specs.Spelt.{spelt_verdict}
-use Rattle.tree_check.specs.declared.preorder.Lack.{Lack}
-use Rattle.tree_check.specs.declared.preorder.Lack.TheVariants.{Complete, Lacks}
-use Rattle.tree_check.specs.declared.preorder.Part.{Part}
-use Rattle.tree_check.specs.declared.preorder.Part.TheVariants as part
-use Rattle.tree_check.specs.declared.check.TreeAnswer.{TreeAnswer}
-use Rattle.tree_check.specs.declared.check.TreeAnswer.TheVariants.{Refused, Accepted}
 use Rattle.tree_check.specs.Whole.{most_cuts}
 use Rattle.tree_check.specs.Preorder.{part_of}
 
-abbrev pub paper : TreeAnswer → Paper
-paper (Refused why) = on_paper why
-paper (Accepted cuts longest) = success (cuts ∷ longest ∷ [])
+abbrev pub paper : Result Figures Refusal → Paper
+paper = said (λ found. found.cuts ∷ found.longest ∷ [])
 
-unfoldable pub root_part : List ℕ → List ℕ → List ℕ → Part
+unfoldable pub root_part : List ℕ → List ℕ → List ℕ → Result Part Refusal
 root_part rs nodes pool = part_of most_cuts rs nodes pool root_box 0
 
-abbrev pub lack_verdict : Lack → Verdict
+abbrev pub lack_verdict : Option Lack → Verdict
 lack_verdict Complete = verdict.Fine
-lack_verdict (Lacks node rule) = verdict.Refused (LeafLacksRule node rule)
+lack_verdict (Some lack) = verdict.Refused (LeafLacksRule lack.node lack.rule)
 
-abbrev pub end_verdict : ℕ → ℕ → Lack → Verdict
+abbrev pub end_verdict : ℕ → ℕ → Option Lack → Verdict
 end_verdict m next lack = refuse_unless (eqb next m) (NodeWrong next) then lack_verdict lack
 
-abbrev pub part_verdict : ℕ → Part → Verdict
-part_verdict m (part.Refused why) = verdict.Refused why
-part_verdict m (part.Good next cuts longest lack) = end_verdict m next lack
+abbrev pub part_verdict : ℕ → Result Part Refusal → Verdict
+part_verdict m (Err why) = verdict.Refused why
+part_verdict m (Ok part) = end_verdict m part.next part.lack
 
-abbrev pub figures : Part → List ℕ
-figures (part.Refused why) = []
-figures (part.Good next cuts longest lack) = cuts ∷ longest ∷ []
+abbrev pub figures : Result Part Refusal → List ℕ
+figures (Err why) = []
+figures (Ok part) = part.cuts ∷ part.longest ∷ []
 
 abbrev pub list_and_sizes : List ℕ → List ℕ → List ℕ → Verdict
 list_and_sizes rs nodes pool = list_verdict rs then size_verdict nodes pool
@@ -61,5 +59,5 @@ unfoldable pub check_verdict : List ℕ → List ℕ → List ℕ → Verdict
 check_verdict rs nodes pool =
     words_verdict rs nodes pool then part_verdict (node_count nodes) (root_part rs nodes pool)
 
-abbrev pub TreeChecked : List ℕ → List ℕ → List ℕ → TreeAnswer → Type 0
+abbrev pub TreeChecked : List ℕ → List ℕ → List ℕ → Result Figures Refusal → Type 0
 TreeChecked rs nodes pool r = Says paper (check_verdict rs nodes pool) (figures (root_part rs nodes pool)) r

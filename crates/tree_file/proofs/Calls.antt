@@ -1,6 +1,8 @@
 -- The calls after one another, for any first word: what the writer wrote reads back as the same tree, what the reader
 -- read is written back byte for byte, and a text that reads well is refused where it is cut, and by a reader of another
 -- first word.
+use Rattle.tree_file.specs.declared.read.Counts.{Counts}
+use Rattle.std.specs.Prelude.{Ok, Result, Err}
 use Prim.Native.Nat.{ℕ, ◌*◌, ◌≤◌, ◌^◌}
 use native.Mathlib.Omega.{arith}
 use mathlib.Core.Bool.{false}
@@ -13,24 +15,20 @@ use Rattle.facts.specs.Lists.{written}
 use Rattle.facts.proofs.Setting.{written_front}
 use Rattle.refusals.specs.declared.Refusal.{Refusal}
 use Rattle.refusals.specs.declared.Refusal.TheVariants.{LineWrong, TextStops}
-use Rattle.refusals.specs.declared.Verdict.TheVariants as verdict
+use Rattle.refusals.specs.Verdict as verdict
 use Rattle.refusals.specs.Promises.{WritesBoth, value}
 use Rattle.refusals.proofs.Order.{holds_fine, then_fine, then_fine_iff, room_fine_iff, refused_not_fine}
 use Rattle.refusals.proofs.Promises.{said_by, fine_by, left_written, writes_unique}
 use Rattle.refusals.proofs.Promises.{writes_fine, writes_refused, both_unique, writes_only}
 use Rattle.trees.specs.Words.{node_words, node_count}
 use Rattle.trees.proofs.Sizes.{sizes_fine_iff}
-use Rattle.text.specs.declared.put.Written.{Written}
-use Rattle.text.specs.declared.put.Written.TheVariants.{Bytes}
 use Rattle.text.specs.Line.{EachUnder}
 use Rattle.text.specs.Text.{Reading, good, refused, split, lines_of}
 use Rattle.text.proofs.Said.{written_apart}
 use Rattle.text.proofs.Plain.{Plain}
-use Rattle.tree_file.specs.declared.read.Read.{Read}
-use Rattle.tree_file.specs.declared.read.Read.TheVariants as read
 use Rattle.tree_file.specs.TreeText.{Tree, tree, file_in}
 use Rattle.tree_file.specs.TreeLines.{file_text, Spelling}
-use Rattle.tree_file.specs.Reading.{paper, values_in, nodes_in, pool_in, room_for, read_verdict, FileRead}
+use Rattle.tree_file.specs.Reading.{paper, values_in, nodes_in, pool_in, room_for, read_verdict, FileRead, HoldsTree}
 use Rattle.tree_file.specs.Writing.{write_verdict, FileWritten}
 use Rattle.tree_file.proofs.RoundTrips.{read_of_written, written_of_read, spelling_of_read, cut_refused}
 use Rattle.tree_file.proofs.FirstWords.{other_word}
@@ -41,9 +39,9 @@ use Rattle.tree_file.proofs.ReadAnswers.{read_apart}
 
 -- a tree that is spelt is written where there is room for its text
 pub fit_written :
-    (word : List ℕ) (n : ℕ) (ns es before after : List ℕ) (t : Written) → Spelling n ns es →
+    (word : List ℕ) (n : ℕ) (ns es before after : List ℕ) (t : Result ℕ Refusal) → Spelling n ns es →
     length (file_text word n ns es) ≤ length before → FileWritten word n ns es before t after →
-    t ≡ Bytes (length (file_text word n ns es))
+    t ≡ Ok (length (file_text word n ns es))
 fit_written word n ns es before after t spelt room w =
     (writes_unique written_apart w
     (writes_fine (then_fine _ (fine_of_spelling n ns es spelt) ∙ (room_fine_iff _ _).1 room) refl refl)).0
@@ -51,7 +49,7 @@ fit_written word n ns es before after t spelt room w =
 -- ---- after the writer
 
 module _ (word : List ℕ) (n : ℕ) (ns es : List ℕ) {before after : List ℕ} {k : ℕ}
-    (w : FileWritten word n ns es before (Bytes k) after) where
+    (w : FileWritten word n ns es before (Ok k) after) where
   abbrev text : List ℕ
   text = file_text word n ns es
 
@@ -68,9 +66,9 @@ module _ (word : List ℕ) (n : ℕ) (ns es : List ℕ) {before after : List ℕ
 
   -- what was written reads back as the same tree
   pub reads_back :
-      Plain word → EachUnder (2 ^ 32) ns → {nodes pool x y : List ℕ} {r : Read} → length ns ≤ length nodes →
-      length es ≤ length pool → FileRead word (take k after) nodes pool r x y →
-      (r ≡ read.Tree n (node_count ns) (length es)) × (x ≡ written ns nodes) × (y ≡ written es pool)
+      Plain word → EachUnder (2 ^ 32) ns → {nodes pool x y : List ℕ} {r : Result Counts Refusal} →
+      length ns ≤ length nodes → length es ≤ length pool → FileRead word (take k after) nodes pool r x y →
+      (r ≡ HoldsTree n (node_count ns) (length es)) × (x ≡ written ns nodes) × (y ≡ written es pool)
   unfolding room_for
   reads_back plain b {nodes} {pool} room more q =
       let e : file_in word (take k after) ≡ good (tree n ns es) =
@@ -83,14 +81,15 @@ module _ (word : List ℕ) (n : ℕ) (ns es : List ℕ) {before after : List ℕ
 
 -- a text that is refused is what the reader answers, and nothing is written
 refused_as_found :
-    (word s : List ℕ) (why : Refusal) → file_in word s ≡ refused why → {ws xs x y : List ℕ} {t : Read} →
-    FileRead word s ws xs t x y → (t ≡ read.Refused why) × (x ≡ ws) × (y ≡ xs)
+    (word s : List ℕ) (why : Refusal) → file_in word s ≡ refused why →
+    {ws xs x y : List ℕ} {t : Result Counts Refusal} →
+    FileRead word s ws xs t x y → (t ≡ Err why) × (x ≡ ws) × (y ≡ xs)
 refused_as_found word s why e q =
     both_unique read_apart q
     (writes_refused {why = why} (rw e) refl refl, writes_refused {why = why} (rw e) refl refl)
 
 module _ (word s : List ℕ) {nodes pool nodes' pool' : List ℕ} {n m p : ℕ}
-    (r : FileRead word s nodes pool (read.Tree n m p) nodes' pool') where
+    (r : FileRead word s nodes pool (HoldsTree n m p) nodes' pool') where
   -- what stands in front is the tree that the text holds
   read_tree : file_in word s ≡ good (tree n (take (m * node_words) nodes') (take p pool'))
   read_tree = go (file_in word s) refl fine (left_written r.0 fine.0) (left_written r.1 fine.0)
@@ -116,9 +115,9 @@ module _ (word s : List ℕ) {nodes pool nodes' pool' : List ℕ} {n m p : ℕ}
 
   -- what was read is written back byte for byte
   pub writes_back :
-      {found left : List ℕ} {t : Written} → length s ≤ length found →
+      {found left : List ℕ} {t : Result ℕ Refusal} → length s ≤ length found →
       FileWritten word n (take (m * node_words) nodes') (take p pool') found t left →
-      (t ≡ Bytes (length s)) × (left ≡ written s found)
+      (t ≡ Ok (length s)) × (left ≡ written s found)
   writes_back room q =
       let e = written_of_read word s _ _ _ read_tree in
       let fine = fine_of_spelling _ _ _ (spelling_of_read word s _ _ _ read_tree) in
@@ -126,8 +125,9 @@ module _ (word s : List ℕ) {nodes pool nodes' pool' : List ℕ} {n m p : ℕ}
 
   -- cut before its end it is refused, with 10 and the number of whole lines left, and nothing is written
   pub cut_short :
-      (u v : List ℕ) → s ≡ u ++ v → (v ≡ [] → ⊥) → {ws xs x y : List ℕ} {t : Read} → FileRead word u ws xs t x y →
-      (t ≡ read.Refused (TextStops (length (lines_of (split u))))) × (x ≡ ws) × (y ≡ xs)
+      (u v : List ℕ) → s ≡ u ++ v → (v ≡ [] → ⊥) → {ws xs x y : List ℕ} {t : Result Counts Refusal} →
+      FileRead word u ws xs t x y →
+      (t ≡ Err (TextStops (length (lines_of (split u))))) × (x ≡ ws) × (y ≡ xs)
   cut_short u v e more q =
       refused_as_found word u _ (cut_refused word u v _ (ap (file_in word) (sym e) ∙ read_tree) more) q
 
@@ -135,8 +135,8 @@ module _ (word s : List ℕ) {nodes pool nodes' pool' : List ℕ} {n m p : ℕ}
 -- is written
 pub read_otherwise :
     (a b : ℕ) (u v s : List ℕ) → eqb a b ≡ false → {nodes pool nodes' pool' : List ℕ} {n m p : ℕ} →
-    FileRead (a ∷ u) s nodes pool (read.Tree n m p) nodes' pool' → {ws xs x y : List ℕ} {t : Read} →
-    FileRead (b ∷ v) s ws xs t x y → (t ≡ read.Refused (LineWrong 1)) × (x ≡ ws) × (y ≡ xs)
+    FileRead (a ∷ u) s nodes pool (HoldsTree n m p) nodes' pool' → {ws xs x y : List ℕ} {t : Result Counts Refusal} →
+    FileRead (b ∷ v) s ws xs t x y → (t ≡ Err (LineWrong 1)) × (x ≡ ws) × (y ≡ xs)
 read_otherwise a b u v s d r q =
     refused_as_found (b ∷ v) s _ (other_word a b u v d s _ (read_tree (a ∷ u) s r)) q
 

@@ -4,12 +4,12 @@ use Prim.Native.Nat.{ℕ, suc, ◌+◌, ◌-◌, ◌≤◌, ◌<◌}
 use native.Mathlib.Nat.{sub-zero}
 use native.Mathlib.Omega.{arith}
 use mathlib.Core.Bool.{true, false}
-use mathlib.Core.Path.{◌≡◌, refl, sym, ap, ◌∙◌}
+use mathlib.Core.Path.{◌≡◌, refl, sym, ◌∙◌}
 use mathlib.Core.Option.{none, some}
 use mathlib.Core.List.{List, [], ◌∷◌, ◌++◌}
 use lib.ListN.{length, get_or, drop, replicate, length-append}
 use lib.Dec.{ltb}
-use lib.Seq.{sets, length-sets, get_or_at}
+use lib.Seq.{sets, get_or_at}
 use borrow.Author.Tests.{lt-ltb}
 use Rattle.facts.specs.Lists.{all_under}
 use Rattle.facts.proofs.Bools.{both, fails}
@@ -93,10 +93,6 @@ left_first s start n count filled old h =
 
 module _ {s : List ℕ} {start n count filled j at : ℕ} {old new : List ℕ}
     (k : EntriesLeft s start n count filled j at old new) where
-  -- what is stored leaves the length as it was
-  pub left_length : length new ≡ length old
-  left_length = ap length k.stored ∙ length-sets old filled k.ys
-
   module _ (more : j < count) where
     -- the next separator is a tab
     next_tab : replicate (count - j) tab ≡ tab ∷ replicate (count - (j + 1)) tab

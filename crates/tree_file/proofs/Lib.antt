@@ -10,7 +10,6 @@ pub mod Back
 pub mod RoundTrips
 pub mod Lengths
 pub mod Writing
-pub mod Storing
 pub mod SpellingVerdict
 pub mod FirstWords
 pub mod FirstLines

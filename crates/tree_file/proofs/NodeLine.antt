@@ -1,4 +1,5 @@
 -- A node's line, from what the cursor answers: it is wrong, or its words and entries are stored.
+use Rattle.std.specs.Prelude.{Err, Ok, Result}
 use Prim.Native.Nat.{ℕ, ◌+◌, ◌*◌, ◌<◌}
 use native.Mathlib.Omega.{arith}
 use mathlib.Core.Bool.{Bool, true, false}
@@ -19,8 +20,6 @@ use Rattle.text.specs.Cursors.{wrong_at, cursor_at}
 use Rattle.text.proofs.Views.{FieldsTaken}
 use Rattle.text.proofs.LineViews.{LineHeld, number_at}
 use Rattle.tree_file.specs.declared.read.Counts.{Counts}
-use Rattle.tree_file.specs.declared.node.Node.{Node}
-use Rattle.tree_file.specs.declared.node.Node.TheVariants.{Refused, Next}
 use Rattle.tree_file.specs.TreeText.{cut_fits, leaf_fits, step}
 use Rattle.tree_file.specs.NodeSteps.{Turn, EntriesRead, LineRead}
 use Rattle.tree_file.proofs.Tests.{leaf_passes}
@@ -44,7 +43,7 @@ module _ (s : List ℕ) (c : Cursor) (k : Counts) (i filled : ℕ) (turn : Turn 
     pub cut_misfits :
         {why : Refusal} (nodes pool nodes' pool' : List ℕ) →
         cut_fits k.nodes i (get_or values 0 0) (get_or values 1 0) (get_or values 3 0) ≡ false → why ≡ wrong_at c.lines →
-        LineRead s c k i filled nodes pool nodes' pool' (Refused why)
+        LineRead s c k i filled nodes pool nodes' pool' (Err why)
     unfolding step
     cut_misfits nodes pool nodes' pool' e q =
         LineRead.refuses q (λ ws es f. rw (lt-ltb i k.nodes turn.node, t.read, cut_tested e))
@@ -54,7 +53,7 @@ module _ (s : List ℕ) (c : Cursor) (k : Counts) (i filled : ℕ) (turn : Turn 
         (nodes pool : List ℕ) {nodes' : List ℕ} →
         cut_fits k.nodes i (get_or values 0 0) (get_or values 1 0) (get_or values 3 0) ≡ true →
         nodes' ≡ sets nodes (i * node_words) (get_or values 1 0 ∷ get_or values 2 0 ∷ get_or values 3 0 ∷ []) →
-        LineRead s c k i filled nodes pool nodes' pool (Next filled d)
+        LineRead s c k i filled nodes pool nodes' pool (Ok (filled, d))
     unfolding step
     cut_stores nodes pool e f =
         LineRead.stores {sum = filled} (get_or values 1 0 ∷ get_or values 2 0 ∷ get_or values 3 0 ∷ []) []
@@ -76,7 +75,7 @@ module _ (s : List ℕ) (c : Cursor) (k : Counts) (i filled : ℕ) (turn : Turn 
     -- a line that is no leaf's either is wrong
     pub leaf_refused :
         {why : Refusal} (nodes' pool' : List ℕ) → read_fields leaf_word two_tabs (drop c.at s) ≡ bad →
-        why ≡ wrong_at c.lines → LineRead s c k i filled nodes pool nodes' pool' (Refused why)
+        why ≡ wrong_at c.lines → LineRead s c k i filled nodes pool nodes' pool' (Err why)
     leaf_refused nodes' pool' e q = LineRead.refuses q (λ ws es f. no_leaf _ _ _ _ _ ws es turn.node no_cut e)
 
     module _ {values : List ℕ} {d : Cursor} (t : FieldsTaken s c leaf_word two_tabs values d) where
@@ -91,7 +90,7 @@ module _ (s : List ℕ) (c : Cursor) (k : Counts) (i filled : ℕ) (turn : Turn 
       pub leaf_misfits :
           {why : Refusal} (nodes' pool' : List ℕ) →
           leaf_fits k.rules k.pool i filled (get_or values 0 0) (get_or values 1 0) ≡ false →
-          why ≡ wrong_at c.lines → LineRead s c k i filled nodes pool nodes' pool' (Refused why)
+          why ≡ wrong_at c.lines → LineRead s c k i filled nodes pool nodes' pool' (Err why)
       leaf_misfits nodes' pool' e q =
           let test = rw (leaf_number 0 (omega arith), leaf_number 1 (omega arith)) at e in
           LineRead.refuses q
@@ -99,7 +98,7 @@ module _ (s : List ℕ) (c : Cursor) (k : Counts) (i filled : ℕ) (turn : Turn 
 
       -- a leaf line whose two numbers pass is what its entries are
       pub leaf_stores :
-          {nodes' pool' : List ℕ} {r : Node} →
+          {nodes' pool' : List ℕ} {r : Result (ℕ × Cursor) Refusal} →
           leaf_fits k.rules k.pool i filled (get_or values 0 0) (get_or values 1 0) ≡ true →
           nodes' ≡ sets nodes (i * node_words) (leaf_mark ∷ filled ∷ get_or values 1 0 ∷ []) →
           EntriesRead s d k.rules (get_or values 1 0) filled pool pool' r →

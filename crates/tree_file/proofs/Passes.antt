@@ -1,5 +1,7 @@
 -- The pass over the lines of the nodes, node by node. `ReadSoFar` is the invariant: the nodes below i are read, their
 -- words and entries are stored, and the rest decides.
+use Rattle.std.specs.Prelude.{Err, Ok, Result}
+use Rattle.refusals.specs.Verdict.{Fine}
 use Prim.Native.Nat.{ℕ, ◌+◌, ◌*◌, ◌^◌, ◌≤◌, ◌<◌}
 use native.Mathlib.Omega.{arith}
 use mathlib.Core.Path.{◌≡◌, refl, sym, ap, subst, ◌∙◌}
@@ -17,14 +19,11 @@ use Rattle.text.specs.Places.{following}
 use Rattle.text.specs.Text.{refused, line, no_line, next_from}
 use Rattle.text.specs.Cursors.{cursor_at}
 use Rattle.text.specs.Onward.{Stands}
-use Rattle.text.specs.declared.end.Ending.TheVariants as end
 use Rattle.text.specs.EndLines.{end_line_at}
 use Rattle.text.proofs.EndLines.{EndComes, end_comes, over_complete}
 use Rattle.text.proofs.NextLines.{EndAt}
 use Rattle.text.proofs.Onward.{next_stands, on_next, on_wrong, on_stops}
 use Rattle.tree_file.specs.declared.read.Counts.{Counts}
-use Rattle.tree_file.specs.declared.node.Node.{Node}
-use Rattle.tree_file.specs.declared.node.Node.TheVariants.{Refused, Next}
 use Rattle.tree_file.specs.TreeText.{tree, over, step, finish}
 use Rattle.tree_file.specs.ReadSteps.{in_nodes, begun, tree_from, TreeStored}
 use Rattle.tree_file.specs.NodeSteps.{LineRead, NodeLineRead}
@@ -40,14 +39,14 @@ module _ {s : List ℕ} {c : Cursor} (small : length s < 2 ^ 63) (stands : Stand
   -- where there is no whole line the text stops
   pub node_stops :
       {why : Refusal} (nodes' pool' : List ℕ) → next_from [] (drop c.at s) ≡ no_line → why ≡ TextStops c.lines →
-      NodeLineRead s c k i filled nodes pool nodes' pool' (Refused why)
+      NodeLineRead s c k i filled nodes pool nodes' pool' (Err why)
   unfolding finish
   node_stops nodes' pool' e q =
       NodeLineRead.refuses (λ ws es f. on_stops small stands step finish (in_nodes k i ws es) refl e q)
 
   -- what a line comes to is what the text comes to there
   pub node_of_line :
-      {p : ℕ} {nodes' pool' : List ℕ} {r : Node} → EndAt s c p →
+      {p : ℕ} {nodes' pool' : List ℕ} {r : Result (ℕ × Cursor) Refusal} → EndAt s c p →
       LineRead (take p s) c k i filled nodes pool nodes' pool' r → NodeLineRead s c k i filled nodes pool nodes' pool' r
   node_of_line e (LineRead.refuses q f) =
       NodeLineRead.refuses
@@ -102,14 +101,14 @@ module _ {s : List ℕ} {k : Counts} {first : Cursor} {nodes pool : List ℕ} {i
   -- a refused line refuses the text
   pub so_far_refused :
       {why : Refusal} {nodes' pool' : List ℕ} →
-      NodeLineRead s c k i filled now_nodes now_pool nodes' pool' (Refused why) →
+      NodeLineRead s c k i filled now_nodes now_pool nodes' pool' (Err why) →
       tree_from (begun k) s first ≡ refused why
   so_far_refused (NodeLineRead.refuses f) = g.left ∙ f g.words g.entries g.total
 
   -- a node's line leads to the next
   pub so_far_step :
       {sum : ℕ} {d : Cursor} {nodes' pool' : List ℕ} → i < k.nodes →
-      NodeLineRead s c k i filled now_nodes now_pool nodes' pool' (Next sum d) →
+      NodeLineRead s c k i filled now_nodes now_pool nodes' pool' (Ok (sum, d)) →
       ReadSoFar s k first nodes pool (i + 1) sum d nodes' pool'
   so_far_step h (NodeLineRead.stores xs ys a stands f) =
       let e : i * node_words ≡ 0 + length g.words = omega (arith, g.size) in
@@ -144,13 +143,13 @@ module _ {s : List ℕ} {k : Counts} {first : Cursor} {nodes pool : List ℕ} {i
 
     -- where it is refused, so is the text
     pub so_far_ends_not :
-        {why : Refusal} → end.Refused why ≡ end_line_at s c (eqb filled k.pool) (k.nodes + 1) →
+        {why : Refusal} → Err why ≡ end_line_at s c (eqb filled k.pool) (k.nodes + 1) →
         tree_from (begun k) s first ≡ refused why
     so_far_ends_not q = subst (EndComes (tree_from (begun k) s first) _) (sym q) last_comes
 
     -- where the text is over, the whole tree is stored
     pub so_far_ends :
-        end.Over ≡ end_line_at s c (eqb filled k.pool) (k.nodes + 1) →
+        Fine ≡ end_line_at s c (eqb filled k.pool) (k.nodes + 1) →
         TreeStored (tree_from (begun k) s first) nodes pool now_nodes now_pool k.rules k.nodes k.pool
     so_far_ends q =
         record {

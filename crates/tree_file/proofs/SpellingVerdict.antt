@@ -5,7 +5,7 @@ use mathlib.Core.List.{List}
 use borrow.Author.Tests.{le-leb, lt-leb, leb-true}
 use Rattle.refusals.specs.declared.Refusal.{Refusal}
 use Rattle.refusals.specs.declared.Refusal.TheVariants.{RuleWordsWrong}
-use Rattle.refusals.specs.declared.Verdict.TheVariants.{Fine, Refused}
+use Rattle.refusals.specs.Verdict.{Fine, Refused}
 use Rattle.refusals.proofs.Order.{holds_fine, fails_refused, fine_iff_holds, then_fine, then_refused, then_fine_iff}
 use Rattle.rules.specs.Words.{most_rules}
 use Rattle.trees.specs.Words.{size_verdict}

@@ -6,6 +6,7 @@
 --   EntriesRead         the entries of a leaf: the line is wrong, or they are stored
 --   NodeLineRead        a node's line in its text: a refusal, or the node is stored and the cursor stands behind it
 use Rattle.std.specs.Prelude.{ℕ, ◌+◌, ◌*◌, ◌≤◌, ◌<◌, cond, ◌≡◌, List, [], ◌++◌, length, drop, replicate}
+use Rattle.std.specs.Prelude.{Err, Ok, Result}
 use Rattle.std.proofs.Math.Option.{Option, none, some}
 use Rattle.std.proofs.lemmas.List.Edits.{sets}
 use Rattle.facts.specs.Lists.{all_under}
@@ -19,8 +20,6 @@ use Rattle.text.specs.Text.{refused}
 use Rattle.text.specs.Onward.{Stands}
 use Rattle.text.specs.Cursors.{wrong_at, cursor_at}
 use Rattle.tree_file.specs.declared.read.Counts.{Counts}
-use Rattle.tree_file.specs.declared.node.Node.{Node}
-use Rattle.tree_file.specs.declared.node.Node.TheVariants.{Refused, Next}
 use Rattle.tree_file.specs.TreeText.{step}
 use Rattle.tree_file.specs.ReadSteps.{Limits, in_nodes, tree_from}
 
@@ -43,36 +42,37 @@ pub record Added (k : Counts) (i filled sum : ℕ) (nodes pool nodes' pool' xs y
   pub nodes_are : nodes' ≡ sets nodes (i * node_words) xs
   pub pool_is : pool' ≡ sets pool filled ys
 
-pub data EntriesRead (s : List ℕ) (c : Cursor) (n count filled : ℕ) (pool pool' : List ℕ) : Node → Type 0 where
+pub data EntriesRead (s : List ℕ) (c : Cursor) (n count filled : ℕ) (pool pool' : List ℕ) :
+    Result (ℕ × Cursor) Refusal → Type 0 where
   refuses :
       {why : Refusal} → entries_of n count (drop c.at s) ≡ none → why ≡ wrong_at c.lines →
-      EntriesRead s c n count filled pool pool' (Refused why)
+      EntriesRead s c n count filled pool pool' (Err why)
   stores :
       {sum : ℕ} {d : Cursor} (ys : List ℕ) → entries_of n count (drop c.at s) ≡ some ys → length ys ≡ count →
       sum ≡ filled + count → d ≡ cursor_at (length s + 1) (following c.lines) → pool' ≡ sets pool filled ys →
-      EntriesRead s c n count filled pool pool' (Next sum d)
+      EntriesRead s c n count filled pool pool' (Ok (sum, d))
 
 pub data LineRead (s : List ℕ) (c : Cursor) (k : Counts) (i filled : ℕ) (nodes pool nodes' pool' : List ℕ) :
-    Node → Type 0 where
+    (Result (ℕ × Cursor) Refusal) → Type 0 where
   refuses :
       {why : Refusal} → why ≡ wrong_at c.lines →
       ((ws es : List ℕ) → length es ≡ filled → step (in_nodes k i ws es) (drop c.at s) ≡ none) →
-      LineRead s c k i filled nodes pool nodes' pool' (Refused why)
+      LineRead s c k i filled nodes pool nodes' pool' (Err why)
   stores :
       {sum : ℕ} {d : Cursor} (xs ys : List ℕ) → Added k i filled sum nodes pool nodes' pool' xs ys →
       d ≡ cursor_at (length s + 1) (following c.lines) →
       ((ws es : List ℕ) → length es ≡ filled →
       step (in_nodes k i ws es) (drop c.at s) ≡ some (in_nodes k (i + 1) (ws ++ xs) (es ++ ys))) →
-      LineRead s c k i filled nodes pool nodes' pool' (Next sum d)
+      LineRead s c k i filled nodes pool nodes' pool' (Ok (sum, d))
 
 pub data NodeLineRead (s : List ℕ) (c : Cursor) (k : Counts) (i filled : ℕ) (nodes pool nodes' pool' : List ℕ) :
-    Node → Type 0 where
+    (Result (ℕ × Cursor) Refusal) → Type 0 where
   refuses :
       {why : Refusal} →
       ((ws es : List ℕ) → length es ≡ filled → tree_from (in_nodes k i ws es) s c ≡ refused why) →
-      NodeLineRead s c k i filled nodes pool nodes' pool' (Refused why)
+      NodeLineRead s c k i filled nodes pool nodes' pool' (Err why)
   stores :
       {sum : ℕ} {d : Cursor} (xs ys : List ℕ) → Added k i filled sum nodes pool nodes' pool' xs ys → Stands s d →
       ((ws es : List ℕ) → length es ≡ filled →
       tree_from (in_nodes k i ws es) s c ≡ tree_from (in_nodes k (i + 1) (ws ++ xs) (es ++ ys)) s d) →
-      NodeLineRead s c k i filled nodes pool nodes' pool' (Next sum d)
+      NodeLineRead s c k i filled nodes pool nodes' pool' (Ok (sum, d))

@@ -5,18 +5,14 @@
 --   FirstLineRead       the first line, which is to begin with the word: what it refuses, or the counts it announces
 --   TreeStored          the words of a tree that a pass found, and where it stored them, as far as there is room
 --   PassRead            a pass over a text that says a: its refusal; or the counts, and the words are stored
-use Rattle.std.specs.Prelude.{ℕ, ◌*◌, true, ◌≡◌, List, [], length}
+use Rattle.std.specs.Prelude.{ℕ, ◌*◌, true, ◌≡◌, List, [], length, Err, Ok, Result}
 use Rattle.std.proofs.lemmas.List.Edits.{sets}
 use Rattle.refusals.specs.declared.Refusal.{Refusal}
 use Rattle.trees.specs.Words.{node_words}
 use Rattle.text.specs.declared.cursor.Cursor.{Cursor}
 use Rattle.text.specs.Text.{Reading, good, refused}
 use Rattle.text.specs.Onward.{Stands, read_on}
-use Rattle.tree_file.specs.declared.read.Read.{Read}
-use Rattle.tree_file.specs.declared.read.Read.TheVariants as said
 use Rattle.tree_file.specs.declared.read.Counts.{Counts}
-use Rattle.tree_file.specs.declared.read.First.{First}
-use Rattle.tree_file.specs.declared.read.First.TheVariants.{Refused, Announces}
 use Rattle.tree_file.specs.TreeText.{Tree, tree, State, within, counts_fit, step, finish, file_in}
 
 pub record Limits (k : Counts) : Type 0 where
@@ -36,9 +32,9 @@ pub record TreeAnnounced (word s : List ℕ) (k : Counts) (d : Cursor) : Type 0 
   pub stands : Stands s d
   pub limits : Limits k
 
-abbrev pub FirstLineRead : List ℕ → List ℕ → First → Type 0
-FirstLineRead word s (Refused why) = file_in word s ≡ refused why
-FirstLineRead word s (Announces k d) = TreeAnnounced word s k d
+abbrev pub FirstLineRead : List ℕ → List ℕ → Result (Counts × Cursor) Refusal → Type 0
+FirstLineRead word s (Err why) = file_in word s ≡ refused why
+FirstLineRead word s (Ok (k, d)) = TreeAnnounced word s k d
 
 pub record TreeStored (a : Reading Tree) (nodes pool nodes' pool' : List ℕ) (n m p : ℕ) : Type 0 where
   pub words : List ℕ
@@ -49,7 +45,8 @@ pub record TreeStored (a : Reading Tree) (nodes pool nodes' pool' : List ℕ) (n
   pub nodes_are : nodes' ≡ sets nodes 0 words
   pub pool_is : pool' ≡ sets pool 0 entries
 
-pub data PassRead (a : Reading Tree) (nodes pool nodes' pool' : List ℕ) : Read → Type 0 where
-  refuses : {why : Refusal} → a ≡ refused why → PassRead a nodes pool nodes' pool' (said.Refused why)
+pub data PassRead (a : Reading Tree) (nodes pool nodes' pool' : List ℕ) : Result Counts Refusal → Type 0 where
+  refuses : {why : Refusal} → a ≡ refused why → PassRead a nodes pool nodes' pool' (Err why)
   stores :
-      {n m p : ℕ} → TreeStored a nodes pool nodes' pool' n m p → PassRead a nodes pool nodes' pool' (said.Tree n m p)
+      {k : Counts} → TreeStored a nodes pool nodes' pool' k.rules k.nodes k.pool →
+      PassRead a nodes pool nodes' pool' (Ok k)

@@ -1,4 +1,5 @@
 -- Reading a tree's file, or a part's. Definitions only.
+--   HoldsTree n m p             the text holds a tree for n rules, of m nodes and p pool words
 --   paper                       an answer of the reader, on paper: the numbers of rules, nodes and pool words
 --   values_in a                 these numbers of a reading that came to its end; none where it was refused
 --   nodes_in a, pool_in a       the words of its nodes, and its pool
@@ -7,23 +8,26 @@
 --   read_verdict a room more    the reading's own refusal, 9 or 10, then 4
 --   FileRead word               the promise: the words of the tree stand in front of both outputs, or it is refused
 --   TreeRead, PartRead          the same for a tree's file, and for a part's
-use Rattle.std.specs.Prelude.{ℕ, List, [], ◌∷◌, length, leb}
+use Rattle.tree_file.specs.declared.read.Counts.{Counts}
+use Rattle.refusals.specs.declared.Refusal.{Refusal}
+use Rattle.std.specs.Prelude.{ℕ, List, [], ◌∷◌, length, leb, Ok, Err, Result}
 use Rattle.refusals.specs.declared.Refusal.TheVariants.{OutputShort}
-use Rattle.refusals.specs.declared.Verdict.{Verdict}
-use Rattle.refusals.specs.declared.Verdict.TheVariants as verdict
+use Rattle.refusals.specs.Verdict.{Verdict}
+use Rattle.refusals.specs.Verdict as verdict
 use Rattle.refusals.specs.Paper.{Paper, success, on_paper}
 use Rattle.refusals.specs.Order.{refuse_unless, room_verdict, ◌then◌}
 use Rattle.refusals.specs.Promises.{Writes}
 use Rattle.trees.specs.Words.{node_count}
 use Rattle.text.specs.Words.{tree_word, part_word}
 use Rattle.text.specs.Text.{Reading, good, refused}
-use Rattle.tree_file.specs.declared.read.Read.{Read}
-use Rattle.tree_file.specs.declared.read.Read.TheVariants as said
 use Rattle.tree_file.specs.TreeText.{Tree, tree, file_in}
 
-abbrev pub paper : Read → Paper
-paper (said.Refused why) = on_paper why
-paper (said.Tree rules nodes pool) = success (rules ∷ nodes ∷ pool ∷ [])
+abbrev pub HoldsTree : ℕ → ℕ → ℕ → Result Counts Refusal
+HoldsTree n m p = Ok (record { rules = n; nodes = m; pool = p })
+
+abbrev pub paper : Result Counts Refusal → Paper
+paper (Err why) = on_paper why
+paper (Ok counts) = success (counts.rules ∷ counts.nodes ∷ counts.pool ∷ [])
 
 abbrev pub values_in : Reading Tree → List ℕ
 values_in (refused why) = []
@@ -45,14 +49,14 @@ abbrev pub read_verdict : Reading Tree → ℕ → ℕ → Verdict
 read_verdict (refused why) a b = verdict.Refused why
 read_verdict (good t) a b = room_for t a b
 
-abbrev pub FileRead : List ℕ → List ℕ → List ℕ → List ℕ → Read → List ℕ → List ℕ → Type 0
+abbrev pub FileRead : List ℕ → List ℕ → List ℕ → List ℕ → Result Counts Refusal → List ℕ → List ℕ → Type 0
 FileRead word s nodes pool r nodes' pool' =
     let a = file_in word s in
     let v = read_verdict a (length nodes) (length pool) in
     Writes paper v (values_in a) (nodes_in a) nodes r nodes' × Writes paper v (values_in a) (pool_in a) pool r pool'
 
-abbrev pub TreeRead : List ℕ → List ℕ → List ℕ → Read → List ℕ → List ℕ → Type 0
+abbrev pub TreeRead : List ℕ → List ℕ → List ℕ → Result Counts Refusal → List ℕ → List ℕ → Type 0
 TreeRead s nodes pool r nodes' pool' = FileRead tree_word s nodes pool r nodes' pool'
 
-abbrev pub PartRead : List ℕ → List ℕ → List ℕ → Read → List ℕ → List ℕ → Type 0
+abbrev pub PartRead : List ℕ → List ℕ → List ℕ → Result Counts Refusal → List ℕ → List ℕ → Type 0
 PartRead s nodes pool r nodes' pool' = FileRead part_word s nodes pool r nodes' pool'

@@ -8,7 +8,7 @@
 --   tree_text, part_text       the same in a tree's file, and in a part's
 --   Spelling n nodes pool      what a tree is written for: n is at most the most rules, the sizes hold, it is spelt
 use Rattle.std.specs.Prelude.{ℕ, ◌≤◌, cond, ◌≡◌, List, [], ◌∷◌, length, replicate}
-use Rattle.refusals.specs.declared.Verdict.TheVariants.{Fine}
+use Rattle.refusals.specs.Verdict.{Fine}
 use Rattle.rules.specs.Words.{most_rules}
 use Rattle.trees.specs.Words.{node_count, field_of, value_of, child_of, count_of, entries, size_verdict}
 use Rattle.trees.specs.Spelt.{is_cut, Spelt}

@@ -10,5 +10,4 @@
 
 pub mod node;
 pub mod read;
-pub mod words;
 pub mod write;

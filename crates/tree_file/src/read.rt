@@ -5,26 +5,16 @@ ghost use Rattle.tree_file.specs.TreeText.{counts_fit, file_in};
 ghost use Rattle.tree_file.specs.Reading.{FileRead, TreeRead, PartRead};
 ghost use Rattle.tree_file.specs.ReadSteps.{Limits, FirstLineRead, PassRead, tree_from, begun};
 
-use crate::node::{Node, node_line};
+use crate::node::node_line;
 use lent::wide;
 use refusals::Refusal;
 use rules::words::MOST_RULES;
-use text::cursor::{Cursor, Step, wrong};
-use text::end::{Ending, end_line};
+use text::cursor::{Cursor, wrong};
+use text::end::end_line;
 use text::words::{PART, THREE_TABS, TREE};
 use trees::words::{MOST_NODES, MOST_POOL, NODE_WORDS};
 
-#[derive(Clone, Copy)]
-pub enum Read {
-    Refused(Refusal),
-    Tree {
-        rules: usize,
-        nodes: usize,
-        pool: usize,
-    },
-}
-
-// The numbers of rules, nodes and pool words that the first line announces.
+// The numbers of rules, nodes and pool words: those that the first line announces, and the file then has.
 #[derive(Clone, Copy)]
 pub struct Counts {
     pub rules: usize,
@@ -32,16 +22,9 @@ pub struct Counts {
     pub pool: usize,
 }
 
-// What the first line says: the counts that it announces, and where the nodes begin.
-#[derive(Clone, Copy)]
-pub enum First {
-    Refused(Refusal),
-    Announces(Counts, Cursor),
-}
-
 // The tree of a text: its nodes from the front of `nodes` on, its entries from the front of `pool` on; what is behind
 // them is as found. A refusal leaves both as found.
-pub fn tree_read(text: &[u8], nodes: &mut [u32], pool: &mut [u32]) -> Read
+pub fn tree_read(text: &[u8], nodes: &mut [u32], pool: &mut [u32]) -> Result<Counts, Refusal>
     ensures { TreeRead text.now nodes.old pool.old result nodes.new
         pool.new }
 {
@@ -49,7 +32,7 @@ pub fn tree_read(text: &[u8], nodes: &mut [u32], pool: &mut [u32]) -> Read
 }
 
 // The same of a part: a tree whose compile was stopped.
-pub fn part_read(text: &[u8], nodes: &mut [u32], pool: &mut [u32]) -> Read
+pub fn part_read(text: &[u8], nodes: &mut [u32], pool: &mut [u32]) -> Result<Counts, Refusal>
     ensures { PartRead text.now nodes.old pool.old result nodes.new
         pool.new }
 {
@@ -57,82 +40,67 @@ pub fn part_read(text: &[u8], nodes: &mut [u32], pool: &mut [u32]) -> Read
 }
 
 // The tree of a text that is to begin with the word. The text is read once without storing, then with.
-fn file_read(word: &[u8], text: &[u8], nodes: &mut [u32], pool: &mut [u32]) -> Read
+fn file_read(
+    word: &[u8],
+    text: &[u8],
+    nodes: &mut [u32],
+    pool: &mut [u32],
+) -> Result<Counts, Refusal>
     ensures { FileRead word.now text.now nodes.old pool.old result
         nodes.new pool.new }
 {
-    match read_pass(word, text, &mut nodes[..0], &mut pool[..0]) {
-        Read::Refused(why) => Read::Refused(why),
-        Read::Tree {
-            rules: _,
-            nodes: count,
-            pool: total,
-        } => {
-            let words = count * NODE_WORDS;
-            if nodes.len() < words {
-                return Read::Refused(Refusal::OutputShort {
-                    needed: words,
-                    output: 0,
-                });
-            }
-            if pool.len() < total {
-                return Read::Refused(Refusal::OutputShort {
-                    needed: total,
-                    output: 1,
-                });
-            }
-            read_pass(word, text, nodes, pool)
-        }
+    let counts = read_pass(word, text, &mut nodes[..0], &mut pool[..0])?;
+    let words = counts.nodes * NODE_WORDS;
+    if nodes.len() < words {
+        return Err(Refusal::OutputShort {
+            needed: words,
+            output: 0,
+        });
     }
+    if pool.len() < counts.pool {
+        return Err(Refusal::OutputShort {
+            needed: counts.pool,
+            output: 1,
+        });
+    }
+    read_pass(word, text, nodes, pool)
 }
 
 // One pass over a text: judges it, and stores the words of its nodes and its entries as far as there is room.
-fn read_pass(word: &[u8], text: &[u8], nodes: &mut [u32], pool: &mut [u32]) -> Read
+fn read_pass(
+    word: &[u8],
+    text: &[u8],
+    nodes: &mut [u32],
+    pool: &mut [u32],
+) -> Result<Counts, Refusal>
     ensures { PassRead (file_in word.now text.now) nodes.old
         pool.old nodes.new pool.new result }
 {
-    match first_line(word, text) {
-        First::Refused(why) => Read::Refused(why),
-        First::Announces(counts, next) => node_lines(text, next, counts, nodes, pool),
-    }
+    let (counts, next) = first_line(word, text)?;
+    node_lines(text, next, counts, nodes, pool)
 }
 
-// The first line, which begins with the word and announces the counts.
-fn first_line(word: &[u8], text: &[u8]) -> First
+// The first line, which begins with the word: the counts that it announces, and where the nodes begin.
+fn first_line(word: &[u8], text: &[u8]) -> Result<(Counts, Cursor), Refusal>
     ensures { FirstLineRead word.now text.now result }
 {
     let start = Cursor { at: 0, lines: 0 };
-    let read = start.line(text, word, &THREE_TABS);
-    let said = read.said;
-    let values = read.values;
-    match said {
-        Step::Refused(why) => First::Refused(why),
-        Step::Next(next) => {
-            let rules = wide(values[0]);
-            let nodes = wide(values[1]);
-            let pool = wide(values[2]);
-            if !counts_fit(rules, nodes, pool) {
-                return First::Refused(wrong(0));
-            }
-            First::Announces(Counts { rules, nodes, pool }, next)
-        }
+    let read = start.line(text, word, &THREE_TABS)?;
+    let rules = wide(read.values[0]);
+    let nodes = wide(read.values[1]);
+    let pool = wide(read.values[2]);
+    if !counts_fit(rules, nodes, pool) {
+        return Err(wrong(0));
     }
+    Ok((Counts { rules, nodes, pool }, read.next))
 }
 
 // Whether the counts obey the limits.
+#[tactic(auto, unfolding(crate::specs::TreeText::counts_fit))]
 fn counts_fit(rules: usize, nodes: usize, pool: usize) -> bool
     ensures { result ≡ counts_fit rules nodes pool }
 {
-    if MOST_RULES < rules {
-        return false;
-    }
-    if nodes == 0 {
-        return false;
-    }
-    if MOST_NODES < nodes {
-        return false;
-    }
-    pool <= MOST_POOL
+    rules <= MOST_RULES && 0 < nodes && nodes <= MOST_NODES && pool <= MOST_POOL
 }
 
 // The lines of the nodes, and the end line: a pool that falls short shows there.
@@ -142,7 +110,7 @@ fn node_lines(
     counts: Counts,
     nodes: &mut [u32],
     pool: &mut [u32],
-) -> Read
+) -> Result<Counts, Refusal>
     requires { Stands text.now next × Limits counts }
     ensures { PassRead (tree_from (begun counts) text.now next) nodes.old
         pool.old nodes.new pool.new result }
@@ -151,25 +119,13 @@ fn node_lines(
     let mut at = next.at;
     let mut lines = next.lines;
     let mut filled = 0;
-    let mut i = 0;
-    while i < count {
+    for i in 0..count {
         let c = Cursor { at, lines };
-        match node_line(text, c, counts, i, filled, nodes, pool) {
-            Node::Refused(why) => return Read::Refused(why),
-            Node::Next(sum, d) => {
-                filled = sum;
-                at = d.at;
-                lines = d.lines;
-            }
-        }
-        i += 1;
+        let (sum, d) = node_line(text, c, counts, i, filled, nodes, pool)?;
+        filled = sum;
+        at = d.at;
+        lines = d.lines;
     }
-    match end_line(text, Cursor { at, lines }, filled == counts.pool, count + 1) {
-        Ending::Refused(why) => Read::Refused(why),
-        Ending::Over => Read::Tree {
-            rules: counts.rules,
-            nodes: counts.nodes,
-            pool: counts.pool,
-        },
-    }
+    end_line(text, Cursor { at, lines }, filled == counts.pool, count + 1)?;
+    Ok(counts)
 }

@@ -8,17 +8,22 @@ ghost use Rattle.tree_file.specs.TreeLines.{first_line, node_line, leaf_marks, f
 ghost use Rattle.tree_file.specs.Writing.{spelling_verdict, FileWritten, TreeWritten, PartWritten};
 ghost use Rattle.tree_file.specs.WriteSteps.{Writable};
 
-use refusals::{Refusal, Verdict};
+use refusals::Refusal;
 use rules::words::MOST_RULES;
 use text::end::put_end;
-use text::put::{Written, put, put_bytes, put_fields, put_line, put_numbers};
+use text::put::{put, put_bytes, put_fields, put_line, put_numbers};
 use text::words::{CUT, FOUR_TABS, LEAF, NEWLINE, PART, THREE_TABS, TREE, TWO_TABS};
 use trees::spelt::{size_verdict, spelt_verdict};
 use trees::words::{NODE_WORDS, Node, node_at};
 
 // The file of a tree for `rules` rules, from the front of `text` on; the rest of `text` is as found. A refusal writes
 // nothing.
-pub fn tree_write(rules: usize, nodes: &[u32], pool: &[u32], text: &mut [u8]) -> Written
+pub fn tree_write(
+    rules: usize,
+    nodes: &[u32],
+    pool: &[u32],
+    text: &mut [u8],
+) -> Result<usize, Refusal>
     ensures { TreeWritten rules nodes.now pool.now text.old result
         text.new }
 {
@@ -26,7 +31,12 @@ pub fn tree_write(rules: usize, nodes: &[u32], pool: &[u32], text: &mut [u8]) ->
 }
 
 // The same of a part: a tree whose compile was stopped.
-pub fn part_write(rules: usize, nodes: &[u32], pool: &[u32], text: &mut [u8]) -> Written
+pub fn part_write(
+    rules: usize,
+    nodes: &[u32],
+    pool: &[u32],
+    text: &mut [u8],
+) -> Result<usize, Refusal>
     ensures { PartWritten rules nodes.now pool.now text.old result
         text.new }
 {
@@ -34,42 +44,48 @@ pub fn part_write(rules: usize, nodes: &[u32], pool: &[u32], text: &mut [u8]) ->
 }
 
 // The file that begins with the word, if there is such a file.
-fn file_write(word: &[u8], rules: usize, nodes: &[u32], pool: &[u32], text: &mut [u8]) -> Written
+fn file_write(
+    word: &[u8],
+    rules: usize,
+    nodes: &[u32],
+    pool: &[u32],
+    text: &mut [u8],
+) -> Result<usize, Refusal>
     ensures { FileWritten word.now rules nodes.now pool.now
         text.old result text.new }
 {
-    match spelling_verdict(rules, nodes, pool) {
-        Verdict::Refused(why) => Written::Refused(why),
-        Verdict::Fine => write_whole(word, rules, nodes, pool, text),
-    }
+    spelling_verdict(rules, nodes, pool)?;
+    write_whole(word, rules, nodes, pool, text)
 }
 
 // Whether there is such a file: the number of rules, the sizes, then *spelt*.
-fn spelling_verdict(rules: usize, nodes: &[u32], pool: &[u32]) -> Verdict
+fn spelling_verdict(rules: usize, nodes: &[u32], pool: &[u32]) -> Result<(), Refusal>
     ensures { result ≡ spelling_verdict rules nodes.now pool.now }
 {
     if MOST_RULES < rules {
-        return Verdict::Refused(Refusal::RuleWordsWrong);
+        return Err(Refusal::RuleWordsWrong);
     }
-    match size_verdict(nodes, pool) {
-        Verdict::Refused(why) => Verdict::Refused(why),
-        Verdict::Fine => spelt_verdict(rules, nodes, pool),
-    }
+    size_verdict(nodes, pool)?;
+    spelt_verdict(rules, nodes, pool)
 }
 
 // The file, if there is room for it: it is written once into no room, which counts its bytes, then into the whole.
-fn write_whole(word: &[u8], rules: usize, nodes: &[u32], pool: &[u32], text: &mut [u8]) -> Written
+fn write_whole(
+    word: &[u8],
+    rules: usize,
+    nodes: &[u32],
+    pool: &[u32],
+    text: &mut [u8],
+) -> Result<usize, Refusal>
     requires { Spelling rules nodes.now pool.now }
     ensures { Said (file_text word.now rules nodes.now pool.now)
         text.old result text.new }
 {
     let needed = write_pass(word, rules, nodes, pool, &mut text[..0]);
     if text.len() < needed {
-        return Written::Refused(Refusal::OutputShort { needed, output: 0 });
+        return Err(Refusal::OutputShort { needed, output: 0 });
     }
-    Written::Bytes {
-        bytes: write_pass(word, rules, nodes, pool, text),
-    }
+    Ok(write_pass(word, rules, nodes, pool, text))
 }
 
 // The whole file, as far as there is room; and its length.
@@ -80,10 +96,8 @@ fn write_pass(word: &[u8], rules: usize, nodes: &[u32], pool: &[u32], text: &mut
 {
     let count = nodes.len() / NODE_WORDS;
     let mut at = put_first(text, word, rules as u32, count as u32, pool.len() as u32);
-    let mut i = 0;
-    while i < count {
+    for i in 0..count {
         at = put_node(text, at, nodes, pool, i);
-        i += 1;
     }
     put_end(text, at, count as u32 + 1)
 }
@@ -104,16 +118,18 @@ fn put_node(text: &mut [u8], at: usize, nodes: &[u32], pool: &[u32], i: usize) -
         text.new result }
 {
     match node_at(nodes, i) {
-        Node::Missing => at,
-        Node::Leaf { start, count } => {
+        None => at,
+        Some(Node::Leaf { start, count }) => {
             let end = start + count;
             put_leaf(text, at, i as u32, count as u32, &pool[start..end])
         }
-        Node::Cut {
-            field,
-            value,
-            child,
-        } => put_cut(text, at, i as u32, field as u32, value, child as u32),
+        Some(
+            Node::Cut {
+                field,
+                value,
+                child,
+            },
+        ) => put_cut(text, at, i as u32, field as u32, value, child as u32),
     }
 }
 

@@ -1,5 +1,9 @@
 -- The answers of the tree search: a refusal on the way is the answer, and at a leaf that was reached its entries
 -- decide.
+use Rattle.trees.specs.declared.search.Listed.{Listed}
+use Rattle.trees.specs.declared.search.First.{First}
+use Rattle.trees.specs.Answers.{ComesTo}
+use Rattle.std.specs.Prelude.{Err, Result}
 use Prim.Native.Nat.{ℕ, ◌+◌, ◌-◌, ◌≤◌}
 use mathlib.Core.Path.{◌≡◌, refl, ap}
 use mathlib.Core.List.{List}
@@ -7,16 +11,11 @@ use lib.ListN.{length, take, drop}
 use borrow.Author.Tests.{leb-true}
 use Rattle.facts.specs.Lists.{keep}
 use Rattle.refusals.specs.declared.Refusal.{Refusal}
-use Rattle.refusals.specs.declared.Verdict.TheVariants.{Fine}
+use Rattle.refusals.specs.Verdict.{Fine}
 use Rattle.refusals.proofs.Order.{fine_iff_holds, then_refused, then_fine_iff}
 use Rattle.refusals.proofs.Promises.{says_refused, says_fine, writes_refused, writes_after}
 use Rattle.fields.proofs.Headers.{legal_iff}
 use Rattle.rules.specs.Matching.{matches}
-use Rattle.trees.specs.declared.search.Reached.TheVariants as reached
-use Rattle.trees.specs.declared.search.TreeListed.{TreeListed}
-use Rattle.trees.specs.declared.search.TreeListed.TheVariants as listed
-use Rattle.trees.specs.declared.search.TreeFirst.{TreeFirst}
-use Rattle.trees.specs.declared.search.TreeFirst.TheVariants as first
 use Rattle.trees.specs.Words.{start_of, count_of}
 use Rattle.trees.specs.Walk.{walk_of, leaf_of, visited}
 use Rattle.trees.specs.Search.{leaf_verdict, reach_verdict, leaf_list, tree_list}
@@ -35,7 +34,7 @@ module _ (rs nodes pool h : List ℕ) where
     pub seen : n ≡ visited (walk_of nodes h)
 
   -- where a leaf was reached the search is fine so far, and these are its words and the nodes visited
-  pub at_reached : {s k n : ℕ} → Reaches rs nodes pool h (reached.Leaf s k n) → AtReached s k n
+  pub at_reached : {s k n : ℕ} → Reaches rs nodes pool h (ComesTo s k n) → AtReached s k n
   at_reached (Reaches.comes e a q) = record { fine = e; words = a; seen = q }
 
   module _ {s k n : ℕ} (a : AtReached s k n) where
@@ -74,25 +73,25 @@ module _ (rs nodes pool h : List ℕ) where
 
     -- what is said of the leaf's entries is what the search for all matches says
     pub all_at_leaf :
-        {before after : List ℕ} {r : TreeListed} → LeafListed rs h (take (s + k - s) (drop s pool)) n before r after →
+        {before after : List ℕ} {r : Result Listed Refusal} → LeafListed rs h (take (s + k - s) (drop s pool)) n before r after →
         TreeAllSearched rs nodes pool h before r after
     unfolding tree_all_verdict
     all_at_leaf w = writes_after a.fine (rw (list, a.seen, part_is_leaf) at w)
 
     -- what is said of the leaf's entries is what the search for the first match says
     pub first_at_leaf :
-        {r : TreeFirst} → LeafFirst rs h (take (s + k - s) (drop s pool)) n r → TreeFirstSearched rs nodes pool h r
+        {r : Result First Refusal} → LeafFirst rs h (take (s + k - s) (drop s pool)) n r → TreeFirstSearched rs nodes pool h r
     first_at_leaf w = says_fine a.fine (rw (list, a.seen, part_is_leaf) at w.is)
 
   -- a refusal on the way is the answer of the search for all matches, and the words are as found
   pub all_refused :
-      {why : Refusal} (before : List ℕ) → Reaches rs nodes pool h (reached.Refused why) →
-      TreeAllSearched rs nodes pool h before (listed.Refused why) before
+      {why : Refusal} (before : List ℕ) → Reaches rs nodes pool h (Err why) →
+      TreeAllSearched rs nodes pool h before (Err why) before
   unfolding tree_all_verdict
   all_refused before (Reaches.refuses e) = writes_refused (then_refused _ e) refl refl
 
   -- a refusal on the way is the answer of the search for the first match
   pub first_refused :
-      {why : Refusal} → Reaches rs nodes pool h (reached.Refused why) →
-      TreeFirstSearched rs nodes pool h (first.Refused why)
+      {why : Refusal} → Reaches rs nodes pool h (Err why) →
+      TreeFirstSearched rs nodes pool h (Err why)
   first_refused (Reaches.refuses e) = says_refused e refl

@@ -1,9 +1,9 @@
 -- A leaf's entries, compared in turn: one entry, and the loop that stops at the first match.
+use Rattle.trees.specs.Answers.{NoRule, Rule}
 use Prim.Native.Nat.{ℕ, ◌+◌, ◌<◌}
-use native.Mathlib.Nat.{zero-add}
 use native.Mathlib.Omega.{arith}
 use mathlib.Core.Bool.{Bool, true, false}
-use mathlib.Core.Path.{◌≡◌, refl, sym, ap, ◌∙◌}
+use mathlib.Core.Path.{◌≡◌, sym, ap, ◌∙◌}
 use mathlib.Core.List.{List, [], ◌∷◌}
 use lib.ListN.{length, get_or}
 use Rattle.facts.specs.Lists.{keep}
@@ -12,7 +12,6 @@ use Rattle.facts.proofs.Under.{all_under_iff_at}
 use Rattle.rules.specs.Words.{rule_count, action_of}
 use Rattle.rules.specs.Matching.{matches, rule_matches}
 use Rattle.rules.proofs.AnyWords.{rule_matches_of_there}
-use Rattle.trees.specs.declared.search.TreeFirst.TheVariants.{Rule, NoRule}
 use Rattle.trees.specs.Search.{looked_at}
 use Rattle.trees.specs.Steps.{Comparable, LeafFirst}
 
@@ -31,10 +30,6 @@ compared {rs} {h} {l} {i} w u e q =
 pub record Looking (p : ℕ → Bool) (all rest : List ℕ) (i : ℕ) : Type 0 where
   pub kept : keep p all ≡ keep p rest
   pub looked : length (looked_at p all) ≡ i + length (looked_at p rest)
-
--- where the loop begins all are left
-pub looking_first : (p : ℕ → Bool) (all : List ℕ) → Looking p all all 0
-looking_first p all = record { kept = refl; looked = sym (zero-add _) }
 
 module _ {p : ℕ → Bool} {all rest next : List ℕ} {i x : ℕ} (w : Looking p all rest i) (step : rest ≡ x ∷ next) where
   -- an entry that fails is passed over

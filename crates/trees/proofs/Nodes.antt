@@ -1,11 +1,12 @@
 -- One node: the tests one by one, and what stands there means.
+use Rattle.trees.specs.declared.words.Node.{Node}
+use Rattle.trees.specs.Standing.{Cut, Leaf, Missing}
+use Rattle.std.specs.Prelude.{Option}
 use Prim.Native.Nat.{ℕ, ◌≤◌, ◌<◌}
 use mathlib.Core.Path.{◌≡◌, refl, subst}
 use mathlib.Core.List.{List}
 use borrow.Author.Tests.{le-leb, lt-leb}
 use Rattle.facts.proofs.Cases.{WithinOrOver, at_most, over, within_or_over}
-use Rattle.trees.specs.declared.words.Node.{Node}
-use Rattle.trees.specs.declared.words.Node.TheVariants.{Missing, Leaf, Cut}
 use Rattle.trees.specs.Words.{leaf_mark, node_count, field_of, value_of, child_of, start_of, count_of}
 use Rattle.trees.specs.Node.{node_at}
 
@@ -47,7 +48,7 @@ module _ (nodes : List ℕ) (i : ℕ) where
     pub child : w ≡ child_of nodes i
 
   -- what is known of node i by what stands there
-  data NodeMeans : Node → Type 0 where
+  data NodeMeans : Option Node → Type 0 where
     missing : node_count nodes ≤ i → NodeMeans Missing
     leaf : {s k : ℕ} → IsLeaf s k → NodeMeans (Leaf s k)
     cut : {f v w : ℕ} → IsCut f v w → NodeMeans (Cut f v w)

@@ -9,7 +9,7 @@ use lib.Dec.{eqb}
 use borrow.Author.Tests.{eqb-true, eq-eqb}
 use Rattle.refusals.specs.declared.Refusal.{Refusal}
 use Rattle.refusals.specs.declared.Refusal.TheVariants.{LeafWrong}
-use Rattle.refusals.specs.declared.Verdict.TheVariants.{Fine, Refused}
+use Rattle.refusals.specs.Verdict.{Fine, Refused}
 use Rattle.refusals.specs.Order.{refuse_unless, in_turn}
 use Rattle.refusals.proofs.Order.{holds_fine, fine_iff_holds, then_fine, then_refused, then_fine_iff}
 use Rattle.refusals.proofs.Turns.{turns_fine_iff}

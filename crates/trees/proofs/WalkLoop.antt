@@ -1,4 +1,8 @@
 -- The walk as a loop that takes one step in each turn: what is left of it, and how it ends.
+use Rattle.trees.specs.declared.walk.Walked.{Walked}
+use Rattle.trees.specs.Answers.{Came, Lost}
+use Rattle.std.specs.Prelude.{Result, Ok, Err}
+use Rattle.refusals.specs.declared.Refusal.{Refusal}
 use Prim.Native.Nat.{ℕ, zero, suc, ◌+◌, ◌-◌, ◌≤◌, ◌<◌}
 use native.Mathlib.Nat.{zero-add, sub-zero}
 use native.Mathlib.Omega.{arith}
@@ -6,23 +10,21 @@ use mathlib.Core.Path.{◌≡◌, refl, sym, ap, ◌∙◌}
 use mathlib.Core.List.{List}
 use lib.ListN.{length}
 use Rattle.trees.specs.declared.walk.Step.TheVariants.{Wrong, Leaf, Next}
-use Rattle.trees.specs.declared.walk.Walked.{Walked}
-use Rattle.trees.specs.declared.walk.Walked.TheVariants.{Lost, Came}
 use Rattle.trees.specs.Words.{node_count}
 use Rattle.trees.specs.Walk.{step_of, Walk, lost, came, past, walk, walk_of}
 use Rattle.trees.specs.Steps.{walked}
 use Rattle.trees.proofs.Walking.{leaf_means, next_means, goes_on_rises}
 
 -- where a walk ends that has already seen v nodes
-pub after : ℕ → Walked → Walked
-after v (Lost i) = Lost i
-after v (Came leaf n) = Came leaf (v + n)
+pub after : ℕ → Result Walked Refusal → Result Walked Refusal
+after v (Err why) = Err why
+after v (Ok end) = Came end.leaf (v + end.visited)
 
 -- where no node was seen before, the walk ends where it ends
-after_none : (w : Walked) → after 0 w ≡ w
+after_none : (w : Result Walked Refusal) → after 0 w ≡ w
 unfolding after
-after_none (Lost i) = refl
-after_none (Came leaf n) = ap (Came leaf) (zero-add n)
+after_none (Err why) = refl
+after_none (Ok end) = ap (Came end.leaf) (zero-add end.visited)
 
 -- after v nodes a walk past a cut ends where, after one node more, the walk behind the cut ends
 after_past : (v i : ℕ) (w : Walk) → after v (walked (past i w)) ≡ after (v + 1) (walked w)

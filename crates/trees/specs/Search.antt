@@ -8,8 +8,8 @@
 use Rattle.std.specs.Prelude.{ℕ, ◌+◌, Bool, cond, List, [], ◌∷◌, length, leb}
 use Rattle.facts.specs.Lists.{keep, all_under}
 use Rattle.refusals.specs.declared.Refusal.TheVariants.{NodeWrong, LeafWrong}
-use Rattle.refusals.specs.declared.Verdict.{Verdict}
-use Rattle.refusals.specs.declared.Verdict.TheVariants.{Fine, Refused}
+use Rattle.refusals.specs.Verdict.{Verdict}
+use Rattle.refusals.specs.Verdict.{Fine, Refused}
 use Rattle.refusals.specs.Order.{refuse_unless, ◌then◌}
 use Rattle.fields.specs.Headers.{header_verdict}
 use Rattle.rules.specs.Words.{rule_count}

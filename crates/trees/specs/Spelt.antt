@@ -9,7 +9,7 @@
 use Rattle.std.specs.Prelude.{ℕ, zero, suc, ◌+◌, ◌≤◌, ◌<◌, Bool, true, cond, ◌&&◌, ◌≡◌, List, length, leb, ltb, eqb}
 use Rattle.facts.specs.Lists.{has, all_under}
 use Rattle.refusals.specs.declared.Refusal.TheVariants.{NodeWrong, LeafWrong}
-use Rattle.refusals.specs.declared.Verdict.{Verdict}
+use Rattle.refusals.specs.Verdict.{Verdict}
 use Rattle.refusals.specs.Order.{refuse_unless, ◌then◌, in_turn}
 use Rattle.trees.specs.Words.{leaf_mark, node_count, field_of, child_of, start_of, count_of, entries}
 

@@ -3,19 +3,18 @@
 --                        numbers it wrote
 --   tree_all_verdict     3, 6, 7, then 4 where the room is less than the number of matches
 --   TreeAllSearched      the promise: it lists the entries that match; it compares every entry of the leaf
-use Rattle.std.specs.Prelude.{ℕ, List, [], ◌∷◌, length}
-use Rattle.refusals.specs.declared.Verdict.{Verdict}
-use Rattle.refusals.specs.Paper.{Paper, success, on_paper}
+use Rattle.trees.specs.declared.search.Listed.{Listed}
+use Rattle.refusals.specs.declared.Refusal.{Refusal}
+use Rattle.std.specs.Prelude.{ℕ, List, [], ◌∷◌, length, Result}
+use Rattle.refusals.specs.Verdict.{Verdict}
+use Rattle.refusals.specs.Paper.{Paper, said}
 use Rattle.refusals.specs.Order.{room_verdict, ◌then◌}
 use Rattle.refusals.specs.Promises.{Writes}
-use Rattle.trees.specs.declared.search.TreeListed.{TreeListed}
-use Rattle.trees.specs.declared.search.TreeListed.TheVariants.{Refused, Found}
 use Rattle.trees.specs.Walk.{walk_of, visited}
 use Rattle.trees.specs.Search.{reach_verdict, leaf_list, tree_list}
 
-abbrev pub paper : TreeListed → Paper
-paper (Refused why) = on_paper why
-paper (Found count nodes compared) = success (nodes ∷ compared ∷ count ∷ [])
+abbrev pub paper : Result Listed Refusal → Paper
+paper = said (λ found. found.visited ∷ found.compared ∷ found.count ∷ [])
 
 unfoldable pub tree_all_verdict : List ℕ → List ℕ → List ℕ → List ℕ → ℕ → Verdict
 tree_all_verdict rs nodes pool h room =
@@ -25,7 +24,7 @@ abbrev pub all_values : List ℕ → List ℕ → List ℕ → List ℕ → List
 all_values rs nodes pool h =
     visited (walk_of nodes h) ∷ length (leaf_list nodes pool h) ∷ length (tree_list rs nodes pool h) ∷ []
 
-abbrev pub TreeAllSearched : List ℕ → List ℕ → List ℕ → List ℕ → List ℕ → TreeListed → List ℕ → Type 0
+abbrev pub TreeAllSearched : List ℕ → List ℕ → List ℕ → List ℕ → List ℕ → Result Listed Refusal → List ℕ → Type 0
 TreeAllSearched rs nodes pool h before r after =
     Writes paper (tree_all_verdict rs nodes pool h (length before)) (all_values rs nodes pool h)
     (tree_list rs nodes pool h) before r after

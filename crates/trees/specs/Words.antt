@@ -9,7 +9,7 @@
 --   size_verdict nodes pool   5: no node words, not whole nodes, or too many; or too long a pool
 use Rattle.std.specs.Prelude.{ℕ, ◌+◌, ◌*◌, ◌/◌, ◌%◌, List, length, get_or, take, drop, leb, ltb, eqb}
 use Rattle.refusals.specs.declared.Refusal.TheVariants.{TreeWordsWrong}
-use Rattle.refusals.specs.declared.Verdict.{Verdict}
+use Rattle.refusals.specs.Verdict.{Verdict}
 use Rattle.refusals.specs.Order.{refuse_unless, ◌then◌}
 use Rattle.fields.specs.Words.{field_count}
 

@@ -4,6 +4,7 @@
 //   spelt::size_verdict      whether there are nodes, and not too many words: 5
 //   spelt::spelt_verdict     whether the words are spelt, for a number of rules: 6, 7
 //   words::node_at           a node by its words
+//   words::store_node        the words of a node, into lent words
 // Each takes any words: the tree search does not repeat the tree check. Rests on facts, lent, refusals, fields and
 // rules.
 #![tactic(auto)]

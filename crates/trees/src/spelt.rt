@@ -8,68 +8,68 @@ use crate::words::{
     CHILD, COUNT, FIRST, LEAF_MARK, MOST_NODES, MOST_POOL, NODE_WORDS, START, node_word,
 };
 use lent::wide;
-use refusals::{Refusal, Verdict};
+use refusals::Refusal;
 
 // Whether there are nodes, whole ones and not too many, and the pool is not too long.
-pub fn size_verdict(nodes: &[u32], pool: &[u32]) -> Verdict
+pub fn size_verdict(nodes: &[u32], pool: &[u32]) -> Result<(), Refusal>
     ensures { result ≡ size_verdict nodes.now pool.now }
 {
-    if nodes.len() == 0 {
-        return Verdict::Refused(Refusal::TreeWordsWrong);
+    if nodes.is_empty() {
+        return Err(Refusal::TreeWordsWrong);
     }
     if nodes.len() % NODE_WORDS != 0 {
-        return Verdict::Refused(Refusal::TreeWordsWrong);
+        return Err(Refusal::TreeWordsWrong);
     }
     if MOST_NODES * NODE_WORDS < nodes.len() {
-        return Verdict::Refused(Refusal::TreeWordsWrong);
+        return Err(Refusal::TreeWordsWrong);
     }
     if MOST_POOL < pool.len() {
-        return Verdict::Refused(Refusal::TreeWordsWrong);
+        return Err(Refusal::TreeWordsWrong);
     }
-    Verdict::Fine
+    Ok(())
 }
 
 // Whether the nodes are spelt for `rules` rules, from the lowest, and all counts together make the pool.
-pub fn spelt_verdict(rules: usize, nodes: &[u32], pool: &[u32]) -> Verdict
+pub fn spelt_verdict(rules: usize, nodes: &[u32], pool: &[u32]) -> Result<(), Refusal>
     ensures { result ≡ spelt_verdict rules nodes.now pool.now }
 {
     let count = nodes.len() / NODE_WORDS;
     let mut sum = 0;
-    let mut node = 0;
-    while node < count {
-        match node_verdict(rules, nodes, pool, node, sum) {
-            Verdict::Refused(why) => return Verdict::Refused(why),
-            Verdict::Fine => {
-                sum += leaf_count(nodes, node);
-                node += 1;
-            }
-        }
+    for node in 0..count {
+        node_verdict(rules, nodes, pool, node, sum)?;
+        sum += leaf_count(nodes, node);
     }
     if sum != pool.len() {
-        return Verdict::Refused(Refusal::LeafWrong { node: count });
+        return Err(Refusal::LeafWrong { node: count });
     }
-    Verdict::Fine
+    Ok(())
 }
 
 // Whether node `i` is spelt, `sum` being the counts of the leaves below it.
-fn node_verdict(rules: usize, nodes: &[u32], pool: &[u32], i: usize, sum: usize) -> Verdict
+fn node_verdict(
+    rules: usize,
+    nodes: &[u32],
+    pool: &[u32],
+    i: usize,
+    sum: usize,
+) -> Result<(), Refusal>
     requires { (i < node_count nodes.now) × (sum ≡ counts_below nodes.now i) }
     ensures { result ≡ node_verdict rules nodes.now pool.now i }
 {
     let first = node_word(nodes, i, FIRST);
     if LEAF_MARK < first {
-        return Verdict::Refused(Refusal::NodeWrong { node: i });
+        return Err(Refusal::NodeWrong { node: i });
     }
     if first < LEAF_MARK {
         if node_word(nodes, i, CHILD) < nodes.len() / NODE_WORDS {
-            return Verdict::Fine;
+            return Ok(());
         }
-        return Verdict::Refused(Refusal::NodeWrong { node: i });
+        return Err(Refusal::NodeWrong { node: i });
     }
     if leaf_spelt(rules, nodes, pool, i, sum) {
-        return Verdict::Fine;
+        return Ok(());
     }
-    Verdict::Refused(Refusal::LeafWrong { node: i })
+    Err(Refusal::LeafWrong { node: i })
 }
 
 // Whether leaf `i` is spelt: its start, its count, its end, its entries.
@@ -93,6 +93,7 @@ fn leaf_spelt(rules: usize, nodes: &[u32], pool: &[u32], i: usize, sum: usize) -
 }
 
 // The count of leaf `i`; 0 for a cut.
+#[tactic(auto, unfolding(crate::specs::Spelt::leaf_count))]
 fn leaf_count(nodes: &[u32], i: usize) -> usize
     requires { i < node_count nodes.now }
     ensures { result ≡ leaf_count nodes.now i }
@@ -107,12 +108,5 @@ fn leaf_count(nodes: &[u32], i: usize) -> usize
 pub(crate) fn all_under(n: usize, numbers: &[u32]) -> bool
     ensures { result ≡ all_under n numbers.now }
 {
-    let mut i = 0;
-    while i < numbers.len() {
-        if n <= wide(numbers[i]) {
-            return false;
-        }
-        i += 1;
-    }
-    true
+    numbers.iter().all(|number| wide(*number) < n)
 }

@@ -1,11 +1,12 @@
 // The words of a tree.
-ghost use Rattle.std.specs.Prelude.{◌<◌, ◌≡◌};
+ghost use Rattle.std.specs.Prelude.{◌*◌, ◌<◌, ◌≡◌};
+ghost use Rattle.std.proofs.lemmas.List.Edits.{sets};
 ghost use Rattle.trees.specs.Words.{node_words, node_count, value_of};
 ghost use Rattle.trees.specs.Node.{node_at};
 ghost use Rattle.trees.specs.Steps.{WordRead};
 
 use fields::header::FIELDS;
-use lent::wide;
+use lent::{store_all, wide};
 
 // The words of a node.
 pub const NODE_WORDS: usize = 3;
@@ -29,10 +30,9 @@ pub const START: usize = 1;
 
 pub const COUNT: usize = 2;
 
-// What stands at a node: none is there; a leaf; or a cut.
+// What stands at a node: a leaf, or a cut.
 #[derive(Clone, Copy)]
 pub enum Node {
-    Missing,
     Leaf {
         start: usize,
         count: usize,
@@ -44,25 +44,33 @@ pub enum Node {
     },
 }
 
-// Node `i` by its words. A first word that is no field is taken for a leaf's mark.
-pub fn node_at(nodes: &[u32], i: usize) -> Node
+// Node `i` by its words, if it is there. A first word that is no field is taken for a leaf's mark.
+#[tactic(auto, unfolding(crate::specs::Node::node_at))]
+pub fn node_at(nodes: &[u32], i: usize) -> Option<Node>
     ensures { result ≡ node_at nodes.now i }
 {
     if nodes.len() / NODE_WORDS <= i {
-        return Node::Missing;
+        return None;
     }
     let first = node_word(nodes, i, FIRST);
     if LEAF_MARK <= first {
-        return Node::Leaf {
+        return Some(Node::Leaf {
             start: node_word(nodes, i, START),
             count: node_word(nodes, i, COUNT),
-        };
+        });
     }
-    Node::Cut {
+    Some(Node::Cut {
         field: first,
         value: value_word(nodes, i),
         child: node_word(nodes, i, CHILD),
-    }
+    })
+}
+
+// Puts the words of node `i`, as far as there is room; a place past the end changes nothing.
+pub fn store_node(nodes: &mut [u32], i: usize, words: [u32; NODE_WORDS])
+    ensures { nodes.new ≡ sets nodes.old (i * node_words) words }
+{
+    store_all(nodes, i.saturating_mul(NODE_WORDS), &words);
 }
 
 // The value of cut `i`.

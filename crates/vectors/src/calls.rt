@@ -1,11 +1,12 @@
 // The searches and the checks: each call, and the line that says its answer.
-use crate::say::{begin, end, refused, value, word, words};
-use rules::check::{Checked, rule_check};
-use rules::line::{First, Listed, line_all, line_first, scan_all, scan_first};
-use rules::miss::{Missed, rule_misses};
+use crate::say::{answer, begin, end, refused, value, word, words};
+use refusals::Refusal;
+use rules::check::rule_check;
+use rules::line::{Hit, line_all, line_first, scan_all, scan_first};
+use rules::miss::rule_misses;
 use std::rt::Stdout;
-use tree_check::check::{TreeAnswer, tree_check};
-use trees::search::{TreeFirst, TreeListed, tree_all, tree_first};
+use tree_check::check::tree_check;
+use trees::search::{First, Listed, tree_all, tree_first};
 
 // What a lent word is before a call.
 pub const AS_FOUND: u32 = 7;
@@ -13,27 +14,17 @@ pub const AS_FOUND: u32 = 7;
 // The number of rules.
 pub(crate) fn check_list(to: Stdout, example: &[u8], list: &[u32]) {
     begin(to, example, b"rule_check");
-    match rule_check(list) {
-        Checked::Refused(why) => refused(to, why),
-        Checked::Good { rules } => {
-            value(to, 0);
-            value(to, rules as u64);
-        }
-    }
+    answer(to, rule_check(list).map(|rules| [rules]));
     end(to);
 }
 
 // The most cuts above a leaf, and the longest leaf.
 pub(crate) fn check_tree(to: Stdout, example: &[u8], list: &[u32], nodes: &[u32], pool: &[u32]) {
     begin(to, example, b"tree_check");
-    match tree_check(list, nodes, pool) {
-        TreeAnswer::Refused(why) => refused(to, why),
-        TreeAnswer::Accepted { cuts, longest } => {
-            value(to, 0);
-            value(to, cuts as u64);
-            value(to, longest as u64);
-        }
-    }
+    answer(
+        to,
+        tree_check(list, nodes, pool).map(|tree| [tree.cuts, tree.longest]),
+    );
     end(to);
 }
 
@@ -62,54 +53,47 @@ pub(crate) fn compare_rule(
     number: usize,
 ) {
     begin(to, example, b"rule_misses");
-    match rule_misses(list, header, number) {
-        Missed::Refused(why) => refused(to, why),
-        Missed::At { field } => {
-            value(to, 0);
-            value(to, field as u64);
-        }
-    }
+    answer(to, rule_misses(list, header, number).map(|field| [field]));
     end(to);
 }
 
 // The first number and its action, or none.
-fn say_first(to: Stdout, example: &[u8], call: &[u8], said: First) {
+fn say_first(to: Stdout, example: &[u8], call: &[u8], said: Result<Option<Hit>, Refusal>) {
     begin(to, example, call);
     match said {
-        First::Refused(why) => refused(to, why),
-        First::Rule { number, action } => {
-            value(to, 0);
-            word(to, b"rule");
-            value(to, number as u64);
-            say_action(to, action);
-        }
-        First::NoRule => {
-            value(to, 0);
-            word(to, b"none");
-        }
+        Ok(hit) => say_hit(to, hit),
+        Err(why) => refused(to, why),
     }
     end(to);
 }
 
-// The action of a first match, where it is not 0.
-fn say_action(to: Stdout, action: u32) {
-    if action != 0 {
-        word(to, b"action");
-        value(to, action as u64);
+// 0 and a first match: its number, and its action where that is not 0.
+fn say_hit(to: Stdout, hit: Option<Hit>) {
+    value(to, 0);
+    match hit {
+        Some(Hit { number, action }) => {
+            word(to, b"rule");
+            value(to, number);
+            if action != 0 {
+                word(to, b"action");
+                value(to, action);
+            }
+        }
+        None => word(to, b"none"),
     }
 }
 
 // The numbers that a line search or a scan found, of which there are so many.
-pub(crate) fn say_listed(to: Stdout, example: &[u8], call: &[u8], said: Listed, out: [u32; 3]) {
+pub(crate) fn say_listed(
+    to: Stdout,
+    example: &[u8],
+    call: &[u8],
+    said: Result<usize, Refusal>,
+    out: [u32; 3],
+) {
     begin(to, example, call);
-    match said {
-        Listed::Refused(why) => refused(to, why),
-        Listed::Found { count } => {
-            value(to, 0);
-            value(to, count as u64);
-        }
-    }
-    words(to, out);
+    answer(to, said.map(|count| [count]));
+    words(to, &out);
     end(to);
 }
 
@@ -129,49 +113,31 @@ pub(crate) fn search_tree(
 }
 
 // The numbers that a tree search found, of which there are so many; the nodes visited, and the entries compared.
-pub(crate) fn say_tree_listed(to: Stdout, example: &[u8], said: TreeListed, out: [u32; 3]) {
+pub(crate) fn say_tree_listed(
+    to: Stdout,
+    example: &[u8],
+    said: Result<Listed, Refusal>,
+    out: [u32; 3],
+) {
     begin(to, example, b"tree_all");
-    match said {
-        TreeListed::Refused(why) => refused(to, why),
-        TreeListed::Found {
-            count,
-            visited,
-            compared,
-        } => {
-            value(to, 0);
-            value(to, count as u64);
-            value(to, visited as u64);
-            value(to, compared as u64);
-        }
-    }
-    words(to, out);
+    answer(
+        to,
+        said.map(|found| [found.count, found.visited, found.compared]),
+    );
+    words(to, &out);
     end(to);
 }
 
 // The first number and its action, or none; the nodes visited, and the entries compared.
-fn say_tree_first(to: Stdout, example: &[u8], said: TreeFirst) {
+fn say_tree_first(to: Stdout, example: &[u8], said: Result<First, Refusal>) {
     begin(to, example, b"tree_first");
     match said {
-        TreeFirst::Refused(why) => refused(to, why),
-        TreeFirst::Rule {
-            number,
-            action,
-            visited,
-            compared,
-        } => {
-            value(to, 0);
-            word(to, b"rule");
-            value(to, number as u64);
-            say_action(to, action);
-            value(to, visited as u64);
-            value(to, compared as u64);
+        Ok(found) => {
+            say_hit(to, found.hit);
+            value(to, found.visited);
+            value(to, found.compared);
         }
-        TreeFirst::NoRule { visited, compared } => {
-            value(to, 0);
-            word(to, b"none");
-            value(to, visited as u64);
-            value(to, compared as u64);
-        }
+        Err(why) => refused(to, why),
     }
     end(to);
 }

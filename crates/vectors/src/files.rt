@@ -1,26 +1,20 @@
 // The files: each reader and writer, and the line that says its answer.
-use crate::say::{begin, end, refused, value, word};
+use crate::say::{answer, begin, end, word};
+use refusals::Refusal;
 use rule_file::kind::Kind;
-use rule_file::read::{Read as ListRead, rules_read};
+use rule_file::read::rules_read;
 use rule_file::write::{acl_write, rules_write};
 use std::rt::Stdout;
-use text::put::Written;
-use tree_file::read::{Read as TreeRead, tree_read};
+use tree_file::read::tree_read;
 use tree_file::write::tree_write;
 
 // The number of rules of a text, and `acl` where it has actions.
 pub(crate) fn read_list(to: Stdout, example: &[u8], text: &[u8], list: &mut [u32]) {
     begin(to, example, b"rules_read");
-    match rules_read(text, list) {
-        ListRead::Refused(why) => refused(to, why),
-        ListRead::Rules { rules, kind } => {
-            value(to, 0);
-            value(to, rules as u64);
-            match kind {
-                Kind::Rules => {}
-                Kind::Acl => word(to, b"acl"),
-            }
-        }
+    let said = rules_read(text, list);
+    answer(to, said.map(|read| [read.rules]));
+    if said.is_ok_and(|read| read.kind == Kind::Acl) {
+        word(to, b"acl");
     }
     end(to);
 }
@@ -46,15 +40,10 @@ pub(crate) fn read_nodes(
     pool: &mut [u32],
 ) {
     begin(to, example, b"tree_read");
-    match tree_read(text, nodes, pool) {
-        TreeRead::Refused(why) => refused(to, why),
-        TreeRead::Tree { rules, nodes, pool } => {
-            value(to, 0);
-            value(to, rules as u64);
-            value(to, nodes as u64);
-            value(to, pool as u64);
-        }
-    }
+    answer(
+        to,
+        tree_read(text, nodes, pool).map(|tree| [tree.rules, tree.nodes, tree.pool]),
+    );
     end(to);
 }
 
@@ -71,13 +60,7 @@ pub(crate) fn write_nodes(
     say_written(to, tree_write(rules, nodes, pool, text));
 }
 
-fn say_written(to: Stdout, said: Written) {
-    match said {
-        Written::Refused(why) => refused(to, why),
-        Written::Bytes { bytes } => {
-            value(to, 0);
-            value(to, bytes as u64);
-        }
-    }
+fn say_written(to: Stdout, said: Result<usize, Refusal>) {
+    answer(to, said.map(|count| [count]));
     end(to);
 }

@@ -143,10 +143,8 @@ fn lists_513(to: Stdout, list: [u32; 5643]) {
 // 513 rules: each has the source ports from 0 to its own number, and is 0 otherwise.
 fn many() -> [u32; 5643] {
     let mut list = [0u32; 5643];
-    let mut i = 0;
-    while i < 513 {
+    for i in 0..513 {
         list[11 * i + 5] = i as u32;
-        i += 1;
     }
     list
 }
@@ -178,20 +176,10 @@ fn chain(cuts: usize) -> [u32; 387]
 {
     let mut nodes = [0u32; 387];
     nodes[6 * cuts] = 5;
-    let mut i = 0;
-    while i < cuts {
-        nodes = with_cut(nodes, i);
-        i += 1;
+    for i in 0..cuts {
+        nodes[6 * i + 1] = i as u32;
+        nodes[6 * i + 2] = 2 * i as u32 + 2;
+        nodes[6 * i + 3] = 5;
     }
-    nodes
-}
-
-// Cut `i` and the leaf on its left.
-fn with_cut(mut nodes: [u32; 387], i: usize) -> [u32; 387]
-    requires { i < 64 }
-{
-    nodes[6 * i + 1] = i as u32;
-    nodes[6 * i + 2] = 2 * i as u32 + 2;
-    nodes[6 * i + 3] = 5;
     nodes
 }

@@ -1,5 +1,6 @@
 // The parts of a line of the output.
 use refusals::{Refusal, extra_of, number_of, place_of};
+use std::fmt::Display;
 use std::io::Print;
 use std::rt::Stdout;
 
@@ -21,9 +22,22 @@ pub(crate) fn word(to: Stdout, text: &[u8]) {
 }
 
 // A number.
-pub(crate) fn value(to: Stdout, n: u64) {
+pub(crate) fn value<D: Display + Drop>(to: Stdout, n: D) {
     bytes(to, b"\t");
     to.print(n).is_ok();
+}
+
+// 0 and the values of an answer, or its refusal.
+pub(crate) fn answer<const N: usize>(to: Stdout, said: Result<[usize; N], Refusal>) {
+    match said {
+        Ok(values) => {
+            value(to, 0);
+            for n in values {
+                value(to, n);
+            }
+        }
+        Err(why) => refused(to, why),
+    }
 }
 
 // The number, place and extra of a refusal.
@@ -34,15 +48,11 @@ pub(crate) fn refused(to: Stdout, why: Refusal) {
 }
 
 // Lent words after the call.
-pub(crate) fn words(to: Stdout, out: [u32; 3]) {
+pub(crate) fn words(to: Stdout, out: &[u32]) {
     word(to, b":");
-    value(to, wide(out[0]));
-    value(to, wide(out[1]));
-    value(to, wide(out[2]));
-}
-
-fn wide(n: u32) -> u64 {
-    n as u64
+    for n in out {
+        value(to, *n);
+    }
 }
 
 // The end of the line.

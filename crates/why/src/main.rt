@@ -12,10 +12,9 @@ ghost use Rattle.system.specs.Runs.{ByFile, WhyRan};
 use ledger::arguments::argument_count;
 use ledger::handle::Handle;
 use policy::file::MOST_FILE;
-use policy::list::{Listed, take_list};
-use refusals::Verdict;
+use policy::list::take_list;
 use rules::words::{MOST_RULES, RULE_WORDS};
-use system::arguments::{Told, number_told};
+use system::arguments::number_told;
 use system::load::{RULES_FILE, load};
 use system::out::say_verdict;
 use system::serve::serve_why;
@@ -37,8 +36,8 @@ fn run(ledger: &mut u64, handle: Handle) -> bool
         return true;
     }
     match number_told(ledger, handle) {
-        Told::Wrong => true,
-        Told::Number(n) => answer(ledger, handle, n as usize),
+        None => true,
+        Some(n) => answer(ledger, handle, n as usize),
     }
 }
 
@@ -51,7 +50,7 @@ fn answer(ledger: &mut u64, handle: Handle, rule: usize) -> bool
     let mut rules = [0u32; MOST_RULES * RULE_WORDS];
     let file = load(ledger, handle, &RULES_FILE, &mut buffer);
     match take_list(file, &buffer, &mut rules) {
-        Listed::Refused(why) => say_verdict(ledger, handle, Verdict::Refused(why)),
-        Listed::Words { words } => serve_why(ledger, handle, &rules[..words], rule),
+        Err(why) => say_verdict(ledger, handle, Err(why)),
+        Ok(words) => serve_why(ledger, handle, &rules[..words], rule),
     }
 }

@@ -1,15 +1,17 @@
 -- Whoever serves answers as the list does, with words that are within the lent ones.
+use Rattle.std.specs.Prelude.{Result}
+use Rattle.refusals.specs.declared.Refusal.{Refusal}
+use Rattle.policy.specs.declared.tree.Words.{Words}
 use Prim.Native.Nat.{ℕ, ◌≤◌}
 use mathlib.Core.Path.{◌≡◌, sym, ap, subst, fun_ext, ◌∙◌}
 use mathlib.Core.List.{List}
 use lib.ListN.{length}
-use Rattle.policy.specs.declared.tree.Taken.{Taken}
 use Rattle.policy.specs.declared.serving.Serving.{Serving}
 use Rattle.policy.specs.WhoServes.{serving_of}
 use Rattle.policy.specs.Output.{by_list, answers_by}
 use Rattle.policy.proofs.Servers.{served_as_list, served_within}
 
-module _ (t : Taken) (rs nodes pool : List ℕ) {r : Serving} (e : r ≡ serving_of t rs nodes pool) where
+module _ (t : Result Words Refusal) (rs nodes pool : List ℕ) {r : Serving} (e : r ≡ serving_of t rs nodes pool) where
   -- the words are within the lent ones
   pub serving_fits : (r.nodes ≤ length nodes) × (r.pool ≤ length pool)
   serving_fits =

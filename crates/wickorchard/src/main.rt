@@ -3,17 +3,14 @@
 // `run`.
 #![tactic(auto)]
 
-ghost use Rattle.std.specs.Prelude.{◌≡◌, length};
 ghost use Rattle.ledger.specs.Ledger.{Enters};
-ghost use Rattle.policy.specs.Files.{most_file};
 ghost use Rattle.system.specs.Runs.{Served, ProgramRan};
 
 use ledger::handle::Handle;
 use policy::file::MOST_FILE;
-use policy::list::{Listed, take_list};
+use policy::list::take_list;
 use policy::serving::who_serves;
 use policy::tree::take_tree;
-use refusals::Verdict;
 use rules::words::{MOST_RULES, RULE_WORDS};
 use system::load::{RULES_FILE, load};
 use system::out::say_verdict;
@@ -36,8 +33,8 @@ fn run(ledger: &mut u64, handle: Handle) -> bool
     let mut rules = [0u32; MOST_RULES * RULE_WORDS];
     let file = load(ledger, handle, &RULES_FILE, &mut buffer);
     match take_list(file, &buffer, &mut rules) {
-        Listed::Refused(why) => say_verdict(ledger, handle, Verdict::Refused(why)),
-        Listed::Words { words } => {
+        Err(why) => say_verdict(ledger, handle, Err(why)),
+        Ok(words) => {
             buffer = [0u8; MOST_FILE];
             answer(ledger, handle, &mut buffer, &rules[..words])
         }
@@ -46,8 +43,7 @@ fn run(ledger: &mut u64, handle: Handle) -> bool
 
 // Answers by the tree where its file is accepted. Where it is refused, that is told, and the list answers; but not
 // where it could not be told.
-fn answer(ledger: &mut u64, handle: Handle, buffer: &mut [u8], rules: &[u32]) -> bool
-    requires { length buffer.old ≡ most_file }
+fn answer(ledger: &mut u64, handle: Handle, buffer: &mut [u8; MOST_FILE], rules: &[u32]) -> bool
     ensures { Enters (Served rules.now result) ledger.old ledger.new }
 {
     let mut nodes = [0u32; MOST_NODES * NODE_WORDS];

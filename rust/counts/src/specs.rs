@@ -49,7 +49,7 @@ pub fn definitions(krate: &str, file: &str, text: &str) -> Result<Vec<Definition
 
 /// The name of the definition that begins in this line: one is marked, or is a signature at the line's start.
 fn begins(line: &str) -> Option<&str> {
-    let marks = ["abbrev", "unfoldable", "record", "data", "pub"];
+    let marks = ["abbrev", "unfoldable", "record", "data", "pub", "pattern"];
     let mut words = line.split_whitespace().skip_while(|word| marks.contains(word));
     let name = words.next().filter(|name| *name != "{")?;
     let marked = marks[..4].iter().any(|mark| line.split_whitespace().take(2).any(|word| word == *mark));

@@ -10,10 +10,13 @@ const RULES: &str = include_str!("../../../crates/rules/src/words.rt");
 const TREES: &str = include_str!("../../../crates/trees/src/words.rt");
 const TREE_CHECK: &str = include_str!("../../../crates/tree_check/src/check.rt");
 
-/// The number that stands behind these words, which stand there once.
+/// The number that stands behind these words, which stand there once. The bits of a word are named, and not spelt out.
 fn number_behind(text: &str, words: &str) -> u64 {
     let parts: Vec<&str> = text.split(words).collect();
     assert_eq!(parts.len(), 2, "{words:?} stands there once");
+    if parts[1].starts_with("u32::BITS;") {
+        return u32::BITS.into();
+    }
     let digits: String = parts[1].chars().take_while(|byte| byte.is_ascii_digit() || *byte == '_').collect();
     digits.replace('_', "").parse().expect("a number stands behind them")
 }

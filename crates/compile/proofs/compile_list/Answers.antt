@@ -9,16 +9,16 @@ use Rattle.compile.proofs.compile_list.Goals as goal
 
 pub slice_bounds-rules-end : goal.slice_bounds-rules-end
 slice_bounds-rules-end c =
-    (list_taken _ c.take_list.ensures c.in-Words.is).1
+    (list_taken _ c.take_list.ensures c.in-Ok.is).1
 
 pub slice_bounds-write_asked-end : goal.slice_bounds-write_asked-end
 slice_bounds-write_asked-end c =
-    sym (length-take-le _ _ (list_taken _ c.take_list.ensures c.in-Words.is).1)
+    sym (length-take-le _ _ (list_taken _ c.take_list.ensures c.in-Ok.is).1)
 
-pub returns-in-Refused : goal.returns-in-Refused
-returns-in-Refused c =
-    ran_refused _ (omega arith) c.load-file.ensures (list_untaken _ (omega arith) c.take_list.ensures c.in-Refused.is) c.say_verdict.ensures
+pub returns-in-Err : goal.returns-in-Err
+returns-in-Err c =
+    ran_refused _ (omega arith) c.load-file.ensures (list_untaken _ (omega arith) c.take_list.ensures c.in-Err.is) c.say_verdict.ensures
 
-pub returns-in-Words : goal.returns-in-Words
-returns-in-Words c =
-    ran_by_list _ (omega arith) c.load-file.ensures (list_taken _ c.take_list.ensures c.in-Words.is).0 c.write_asked.ensures
+pub returns-in-Ok : goal.returns-in-Ok
+returns-in-Ok c =
+    ran_by_list _ (omega arith) c.load-file.ensures (list_taken _ c.take_list.ensures c.in-Ok.is).0 c.write_asked.ensures

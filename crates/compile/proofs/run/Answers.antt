@@ -16,12 +16,12 @@ returns-then-count-gt3 c =
 
 pub returns-then-count-eq2 : goal.returns-then-count-eq2
 returns-then-count-eq2 c =
-    step_ran _ _ c.argument_count-count.ensures c.number_told.ensures c.in-Number.is c.if-count-eq2.true c.compile_list-then-count-eq2.ensures
+    step_ran _ _ c.argument_count-count.ensures c.number_told.ensures c.in-Some.is c.if-count-eq2.true c.compile_list-then-count-eq2.ensures
 
-pub returns-in-Wrong : goal.returns-in-Wrong
-returns-in-Wrong c =
-    compile_wrong _ _ c.argument_count-count.ensures c.number_told.ensures c.if-count-lt2.false c.if-count-gt3.false c.in-Wrong.is
+pub returns-in-None : goal.returns-in-None
+returns-in-None c =
+    compile_wrong _ _ c.argument_count-count.ensures c.number_told.ensures c.if-count-lt2.false c.if-count-gt3.false c.in-None.is
 
 pub returns-else-count-eq2 : goal.returns-else-count-eq2
 returns-else-count-eq2 c =
-    next_ran _ _ c.argument_count-count.ensures c.number_told.ensures c.in-Number.is (omega (arith, c.if-count-lt2.false, c.if-count-gt3.false, c.if-count-eq2.false)) c.compile_list-in-Number.ensures
+    next_ran _ _ c.argument_count-count.ensures c.number_told.ensures c.in-Some.is (omega (arith, c.if-count-lt2.false, c.if-count-gt3.false, c.if-count-eq2.false)) c.compile_list-in-Some.ensures

@@ -9,10 +9,10 @@ pub returns-then-argument_count-ne-ARGUMENTS : goal.returns-then-argument_count-
 returns-then-argument_count-ne-ARGUMENTS c =
     enters_one (counted _) c.argument_count.ensures (not_one _ c.if-argument_count-ne-ARGUMENTS.true)
 
-pub returns-in-Wrong : goal.returns-in-Wrong
-returns-in-Wrong c =
-    why_wrong _ _ c.argument_count.ensures c.number_told.ensures c.if-argument_count-ne-ARGUMENTS.false c.in-Wrong.is
+pub returns-in-None : goal.returns-in-None
+returns-in-None c =
+    why_wrong _ _ c.argument_count.ensures c.number_told.ensures c.if-argument_count-ne-ARGUMENTS.false c.in-None.is
 
-pub returns-in-Number : goal.returns-in-Number
-returns-in-Number c =
-    why_ran _ _ c.argument_count.ensures c.number_told.ensures c.in-Number.is c.if-argument_count-ne-ARGUMENTS.false c.answer.ensures
+pub returns-in-Some : goal.returns-in-Some
+returns-in-Some c =
+    why_ran _ _ c.argument_count.ensures c.number_told.ensures c.in-Some.is c.if-argument_count-ne-ARGUMENTS.false c.answer.ensures

@@ -11,7 +11,7 @@ use Rattle.wickorchard.proofs.answer.Goals as goal
 
 pub returns-then-not-say_verdict : goal.returns-then-not-say_verdict
 returns-then-not-say_verdict c =
-    served_untold _ _ (omega (arith, c.requires)) c.load-file.ensures (ap (λ (s : Serving). s.refused) c.who_serves-serving.ensures ∙ serving_refused_as _ _ _ (omega arith) (omega arith) c.take_tree-taken.ensures) c.say_verdict.ensures (c.if-not-say_verdict.true)
+    served_untold _ _ (omega arith) c.load-file.ensures (ap (λ (s : Serving). s.refused) c.who_serves-serving.ensures ∙ serving_refused_as _ _ _ (omega arith) (omega arith) c.take_tree-taken.ensures) c.say_verdict.ensures (c.if-not-say_verdict.true)
 
 pub slice_bounds-nodes-end : goal.slice_bounds-nodes-end
 slice_bounds-nodes-end c =
@@ -31,4 +31,4 @@ slice_bounds-serve-end-2 c =
 
 pub returns : goal.returns
 returns c =
-    served_told _ _ (omega (arith, c.requires)) c.load-file.ensures (ap (λ (s : Serving). s.refused) c.who_serves-serving.ensures ∙ serving_refused_as _ _ _ (omega arith) (omega arith) c.take_tree-taken.ensures) c.say_verdict.ensures c.if-not-say_verdict.false (serving_answers _ _ _ _ c.who_serves-serving.ensures) c.serve.ensures
+    served_told _ _ (omega arith) c.load-file.ensures (ap (λ (s : Serving). s.refused) c.who_serves-serving.ensures ∙ serving_refused_as _ _ _ (omega arith) (omega arith) c.take_tree-taken.ensures) c.say_verdict.ensures c.if-not-say_verdict.false (serving_answers _ _ _ _ c.who_serves-serving.ensures) c.serve.ensures

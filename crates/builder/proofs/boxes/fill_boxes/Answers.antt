@@ -2,16 +2,13 @@
 -- Assumes nothing.
 use Prim.Native.Nat.{ℕ, ◌*◌, ◌^◌, ◌<◌}
 use native.Mathlib.Omega.{arith}
-use mathlib.Core.Path.{◌≡◌, refl, ap, ◌∙◌}
+use mathlib.Core.Path.{◌≡◌, ap, ◌∙◌}
 use lib.ListN.{length, get_or}
 use lib.Seq.{length-sets}
 use Rattle.fields.specs.Words.{address_bits, field_count}
 use Rattle.rules.specs.Words.{rule_count}
-use Rattle.builder.proofs.Sides.{sides_first, side_found, sides_step, sides_last}
+use Rattle.builder.proofs.Sides.{side_found, sides_step, sides_last}
 use Rattle.builder.proofs.boxes.fill_boxes.Goals as goal
-
-pub loop-i-init : goal.loop-i-init
-loop-i-init c = (refl, omega arith, refl, sides_first _ _)
 
 pub loop-i-preserved : goal.loop-i-preserved
 loop-i-preserved c = let rules = c.args.rules.now in
@@ -22,15 +19,11 @@ loop-i-preserved c = let rules = c.args.rules.now in
     let ends = found.ensures ∙ side_found rules i c.requires.0 words (omega arith) in
     let stored = c.store_all.ensures in (
       c.loop-i.invariant.0,
-      omega arith,
-      ap length stored ∙ length-sets c.loop-i.out (i * 2) found.result ∙ c.loop-i.invariant.2,
-      sides_step c.loop-i.invariant.3 (omega arith) ends stored,
+      ap length stored ∙ length-sets c.loop-i.out (i * 2) found.result ∙ c.loop-i.invariant.1,
+      sides_step c.loop-i.invariant.2 (omega arith) ends stored,
     )
-
-pub shape_of-out : goal.shape_of-out
-shape_of-out c = c.loop-i.invariant.2
 
 pub returns : goal.returns
 returns c = let rules = c.args.rules.now in
     let all : c.loop-i.i ≡ rule_count rules * field_count = omega arith in
-    sides_last rules c.loop-i.out (rw all at c.loop-i.invariant.3) (omega arith)
+    sides_last rules c.loop-i.out (rw all at c.loop-i.invariant.2) (omega arith)

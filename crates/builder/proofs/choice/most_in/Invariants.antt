@@ -1,6 +1,5 @@
 -- `builder::choice::most_in` meets its contract. The invariant: what is held has the most values of the fields before
 -- this one, and the lent words are as many as before. Assumes nothing.
-use Prim.Native.Nat.{◌-◌, ◌≤◌}
 use mathlib.Core.Path.{◌≡◌}
 use lib.ListN.{length}
 use Rattle.fields.specs.Words.{field_count}
@@ -10,8 +9,5 @@ use Rattle.builder.specs.ChoiceSteps.{MostFound}
 use Rattle.builder.proofs.choice.most_in.Given as goal
 
 abbrev pub invariant-loop-f : goal.invariant-loop-f
-invariant-loop-f l = (l.f ≤ field_count) × (length l.values ≡ length l.initial.values) × (length l.spare ≡ length l.initial.spare) ×
+invariant-loop-f l = (length l.values ≡ length l.initial.values) × (length l.spare ≡ length l.initial.spare) ×
     MostFound (cut_values field_count (boxes_in l.boxes) l.bounds) l.f l.most
-
-abbrev pub decreases-loop-f : goal.decreases-loop-f
-decreases-loop-f l = field_count - l.f

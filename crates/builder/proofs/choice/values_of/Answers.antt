@@ -3,7 +3,7 @@
 use Prim.Native.Nat.{◌≤◌}
 use native.Mathlib.Omega.{arith}
 use mathlib.Core.Path.{◌≡◌, refl, sym}
-use lib.ListN.{length, take, drop, length-append, length-drop}
+use lib.ListN.{length, take}
 use lib.Seq.{length-take-le}
 use Rattle.builder.specs.ChoiceSteps.{most_values, found, few}
 use Rattle.builder.proofs.FieldValues.{stored_few, stored_size, values_few, values_found}
@@ -50,25 +50,6 @@ slice_bounds-sort_once-end-2 c = sym (lent-few (goal.at.slice_bounds-sort_once-e
 
 pub sort_once-count-requires : goal.sort_once-count-requires
 sort_once-count-requires c = omega (arith, lent-few (goal.at.sort_once-count-requires c).After-store_ends-n, (room-left (goal.at.sort_once-count-requires c).After-store_ends-n).0, c.requires.3)
-
-pub offset_bounds-values-middle_place : goal.offset_bounds-values-middle_place
-offset_bounds-values-middle_place c = omega (arith, c.middle_place.ensures, sorted-few (goal.at.offset_bounds-values-middle_place c).After-sort_once-count)
-
-pub bounds-values-middle_place : goal.bounds-values-middle_place
-bounds-values-middle_place c = let sorted = c.sort_once-count.new.words in
-    let n = c.store_ends-n.result in
-    let after = c.store_ends-n.new.values in
-    omega (
-      arith,
-      c.middle_place.ensures,
-      sorted-few (goal.at.bounds-values-middle_place c).After-sort_once-count,
-      (room-left (goal.at.bounds-values-middle_place c).After-store_ends-n).0,
-      (room-left (goal.at.bounds-values-middle_place c).After-store_ends-n).1,
-      lent-few (goal.at.bounds-values-middle_place c).After-store_ends-n,
-      c.sort_once-count.auto.words,
-      length-append sorted (drop n after),
-      length-drop n after,
-    )
 
 pub returns-then-n-least : goal.returns-then-n-least
 returns-then-n-least c = few refl refl

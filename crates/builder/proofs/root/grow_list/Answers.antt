@@ -18,6 +18,3 @@ slice_bounds-grow_boxes-end c = sym (length-take-le _ _ (omega (arith, (good_of_
 
 pub grow_boxes-requires : goal.grow_boxes-requires
 grow_boxes-requires c = boxes_ready _ _ (good_of_fine _ c.requires.0) c.fill_boxes.auto.out c.requires.1
-
-pub returns : goal.returns
-returns c = rw c.fill_boxes.ensures.boxes at c.grow_boxes.ensures

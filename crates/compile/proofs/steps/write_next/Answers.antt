@@ -8,24 +8,24 @@ use Rattle.compile.proofs.steps.write_next.Goals as goal
 
 pub slice_bounds-nodes-end : goal.slice_bounds-nodes-end
 slice_bounds-nodes-end c =
-    (goes_words _ _ c.take_part-begun.ensures c.goes_on.ensures c.in-Words.is).2
+    (goes_words _ _ c.take_part-begun.ensures c.goes_on.ensures c.in-Ok.is).2
 
 pub slice_bounds-write_on-end : goal.slice_bounds-write_on-end
 slice_bounds-write_on-end c =
-    sym (length-take-le _ _ (goes_words _ _ c.take_part-begun.ensures c.goes_on.ensures c.in-Words.is).2)
+    sym (length-take-le _ _ (goes_words _ _ c.take_part-begun.ensures c.goes_on.ensures c.in-Ok.is).2)
 
 pub slice_bounds-pool-end : goal.slice_bounds-pool-end
 slice_bounds-pool-end c =
-    (goes_words _ _ c.take_part-begun.ensures c.goes_on.ensures c.in-Words.is).3
+    (goes_words _ _ c.take_part-begun.ensures c.goes_on.ensures c.in-Ok.is).3
 
-pub slice_bounds-write_on-end-in-Words : goal.slice_bounds-write_on-end-in-Words
-slice_bounds-write_on-end-in-Words c =
-    sym (length-take-le _ _ (goes_words _ _ c.take_part-begun.ensures c.goes_on.ensures c.in-Words.is).3)
+pub slice_bounds-write_on-end-in-Ok : goal.slice_bounds-write_on-end-in-Ok
+slice_bounds-write_on-end-in-Ok c =
+    sym (length-take-le _ _ (goes_words _ _ c.take_part-begun.ensures c.goes_on.ensures c.in-Ok.is).3)
 
-pub returns-in-Refused : goal.returns-in-Refused
-returns-in-Refused c =
-    next_anew _ (omega (arith, c.requires)) c.load_part-file.ensures (goes_refused _ _ c.take_part-begun.ensures (omega arith) (omega arith) c.goes_on.ensures c.in-Refused.is) c.begin_anew.ensures
+pub returns-in-Err : goal.returns-in-Err
+returns-in-Err c =
+    next_anew _ (omega arith) c.load_part-file.ensures (goes_refused _ _ c.take_part-begun.ensures (omega arith) (omega arith) c.goes_on.ensures c.in-Err.is) c.begin_anew.ensures
 
-pub returns-in-Words : goal.returns-in-Words
-returns-in-Words c =
-    let w = goes_words _ _ c.take_part-begun.ensures c.goes_on.ensures c.in-Words.is in next_on _ (omega (arith, c.requires)) c.load_part-file.ensures w.0 w.1 c.write_on.ensures
+pub returns-in-Ok : goal.returns-in-Ok
+returns-in-Ok c =
+    let w = goes_words _ _ c.take_part-begun.ensures c.goes_on.ensures c.in-Ok.is in next_on _ (omega arith) c.load_part-file.ensures w.0 w.1 c.write_on.ensures

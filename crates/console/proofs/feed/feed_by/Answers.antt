@@ -21,9 +21,6 @@ slice_bounds-with_bytes-end c = (line_ends _ _ c.loop-taken-test.true c.line_end
 pub with_bytes-line-requires : goal.with_bytes-line-requires
 with_bytes-line-requires c = none_of_plain _ (line_ends _ _ c.loop-taken-test.true c.line_end-end.ensures).plain
 
-pub shape_of-out-then-end-piece : goal.shape_of-out-then-end-piece
-shape_of-out-then-end-piece c = reached_length _ _ _ _ c.loop-taken.invariant
-
 pub returns-then-end-piece : goal.returns-then-end-piece
 returns-then-end-piece c =
     let here = c.loop-taken.invariant in
@@ -33,29 +30,20 @@ returns-then-end-piece c =
       bounded = (omega arith, omega (arith, here.fits, reached_length _ _ _ _ here));
     }
 
-pub slice_bounds-reply_at-count : goal.slice_bounds-reply_at-count
-slice_bounds-reply_at-count c = let here = c.loop-taken.invariant in
-    omega (arith, here.fits, reached_length _ _ _ _ here)
+pub shape_of-out-in-Err : goal.shape_of-out-in-Err
+shape_of-out-in-Err c = line_short_length _ _ _ _ c.loop-taken.invariant c.loop-taken-test.true c.line_end-end.ensures
+    c.with_bytes-line.ensures c.if-end-piece.false c.reply_at.ensures c.in-Err.is
 
-pub slice_bounds-reply_at-start : goal.slice_bounds-reply_at-start
-slice_bounds-reply_at-start c =
-    let here = c.loop-taken.invariant in
-    omega (arith, here.fits, reached_length _ _ _ _ here)
-
-pub shape_of-out-in-Refused : goal.shape_of-out-in-Refused
-shape_of-out-in-Refused c = line_short_length _ _ _ _ c.loop-taken.invariant c.loop-taken-test.true c.line_end-end.ensures
-    c.with_bytes-line.ensures c.if-end-piece.false c.reply_at.ensures c.in-Refused.is
-
-pub returns-in-Refused : goal.returns-in-Refused
-returns-in-Refused c =
+pub returns-in-Err : goal.returns-in-Err
+returns-in-Err c =
     let here = c.loop-taken.invariant in
     let ends = line_ends _ _ c.loop-taken-test.true c.line_end-end.ensures in
     let size =
     line_short_length _ _ _ _ here c.loop-taken-test.true c.line_end-end.ensures
-    c.with_bytes-line.ensures c.if-end-piece.false c.reply_at.ensures c.in-Refused.is in
+    c.with_bytes-line.ensures c.if-end-piece.false c.reply_at.ensures c.in-Err.is in
     record {
       fed = line_short _ _ _ _ here c.loop-taken-test.true c.line_end-end.ensures c.with_bytes-line.ensures
-          c.if-end-piece.false c.reply_at.ensures c.in-Refused.is;
+          c.if-end-piece.false c.reply_at.ensures c.in-Err.is;
       bounded = (ends.within, omega (arith, here.fits, size));
     }
 
@@ -63,11 +51,8 @@ pub overflow_add-filled : goal.overflow_add-filled
 overflow_add-filled c = let next =
     line_step _ _ _ _ c.loop-taken.invariant c.loop-taken-test.true c.line_end-end.ensures
     c.with_bytes-line.ensures c.if-end-piece.false c.reply_at.ensures
-    c.in-Bytes.is in
+    c.in-Ok.is in
     omega (arith, next.fits, c.well_formed)
-
-pub overflow_add-taken : goal.overflow_add-taken
-overflow_add-taken c = omega (arith, (line_ends _ _ c.loop-taken-test.true c.line_end-end.ensures).within, c.if-end-piece.false, c.well_formed)
 
 pub loop-taken-smaller : goal.loop-taken-smaller
 loop-taken-smaller c = omega (arith, (line_ends _ _ c.loop-taken-test.true c.line_end-end.ensures).from, (line_ends _ _ c.loop-taken-test.true c.line_end-end.ensures).within, c.if-end-piece.false)
@@ -76,10 +61,7 @@ pub loop-taken-preserved : goal.loop-taken-preserved
 loop-taken-preserved c = rw c.next_line-gathering.ensures
     (line_step _ _ _ _ c.loop-taken.invariant c.loop-taken-test.true c.line_end-end.ensures
     c.with_bytes-line.ensures c.if-end-piece.false c.reply_at.ensures
-    c.in-Bytes.is)
-
-pub shape_of-out : goal.shape_of-out
-shape_of-out c = reached_length _ _ _ _ c.loop-taken.invariant
+    c.in-Ok.is)
 
 pub returns : goal.returns
 returns c =

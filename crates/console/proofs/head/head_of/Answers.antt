@@ -1,15 +1,13 @@
 -- `console::head::head_of` meets its contract: the octets are tested, and the addresses made of them. Assumes nothing.
-use mathlib.Core.Path.{◌∙◌}
 use Rattle.facts.proofs.Bools.{held, failed}
 use Rattle.console.proofs.Heads.{source_fails, destination_fails, octets_fit_lem}
 use Rattle.console.proofs.head.head_of.Goals as goal
 
 pub returns-then-not-octets_fit : goal.returns-then-not-octets_fit
-returns-then-not-octets_fit c = c.no_head.ensures ∙ source_fails _ (failed c.octets_fit.ensures c.if-not-octets_fit.true)
+returns-then-not-octets_fit c = source_fails _ (failed c.octets_fit.ensures c.if-not-octets_fit.true)
 
 pub returns-then-not-octets_fit-2 : goal.returns-then-not-octets_fit-2
-returns-then-not-octets_fit-2 c = c.no_head-then-not-octets_fit-2.ensures ∙
-    destination_fails _ (held c.octets_fit.ensures c.if-not-octets_fit.false)
+returns-then-not-octets_fit-2 c = destination_fails _ (held c.octets_fit.ensures c.if-not-octets_fit.false)
     (failed c.octets_fit-2.ensures c.if-not-octets_fit-2.true)
 
 pub returns : goal.returns

@@ -8,23 +8,23 @@ use Rattle.console.proofs.Searching.{found_refused, found_fits, found_hit}
 use Rattle.console.proofs.reply.answer.Goals as goal
 
 pub slice_bounds-found-end : goal.slice_bounds-found-end
-slice_bounds-found-end c = found_fits c.search.ensures c.in-Found.is
+slice_bounds-found-end c = found_fits c.search.ensures c.in-Ok.is
 
 pub slice_bounds-hit_line-end : goal.slice_bounds-hit_line-end
-slice_bounds-hit_line-end c = sym (length-take-le _ _ (found_fits c.search.ensures c.in-Found.is))
+slice_bounds-hit_line-end c = sym (length-take-le _ _ (found_fits c.search.ensures c.in-Ok.is))
 
 pub hit_line-requires : goal.hit_line-requires
 hit_line-requires c = let s = c.search in
-    let fits = found_fits s.ensures c.in-Found.is in
-    let size = length-take-le c.in-Found.count s.new.out fits in
+    let fits = found_fits s.ensures c.in-Ok.is in
+    let size = length-take-le c.in-Ok.count s.new.out fits in
     omega (arith, size, fits, s.auto.out)
 
-pub returns-in-Refused : goal.returns-in-Refused
+pub returns-in-Err : goal.returns-in-Err
 unfolding answer_by
-returns-in-Refused c = said_same (found_refused c.search.ensures c.in-Refused.is)
+returns-in-Err c = said_same (found_refused c.search.ensures c.in-Err.is)
     c.refused_line.ensures.said
 
-pub returns-in-Found : goal.returns-in-Found
+pub returns-in-Ok : goal.returns-in-Ok
 unfolding answer_by
-returns-in-Found c = said_same (found_hit c.search.ensures c.in-Found.is)
+returns-in-Ok c = said_same (found_hit c.search.ensures c.in-Ok.is)
     c.hit_line.ensures

@@ -3,10 +3,10 @@ use Rattle.text.proofs.Said.{said_same}
 use Rattle.console.proofs.Searching.{miss_refused, miss_found}
 use Rattle.console.proofs.reply.answer_miss.Goals as goal
 
-pub returns-in-Refused : goal.returns-in-Refused
-returns-in-Refused c = said_same (miss_refused _ _ _ c.rule_misses.ensures c.in-Refused.is)
+pub returns-in-Err : goal.returns-in-Err
+returns-in-Err c = said_same (miss_refused _ _ _ c.rule_misses.ensures c.in-Err.is)
     c.refused_line.ensures.said
 
-pub returns-in-At : goal.returns-in-At
-returns-in-At c = said_same (miss_found _ _ _ c.rule_misses.ensures c.in-At.is)
+pub returns-in-Ok : goal.returns-in-Ok
+returns-in-Ok c = said_same (miss_found _ _ _ c.rule_misses.ensures c.in-Ok.is)
     c.miss_line.ensures

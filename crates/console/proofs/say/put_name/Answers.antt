@@ -13,28 +13,28 @@ use Rattle.console.proofs.say.put_name.Goals as goal
 named : {f : ℕ} (k : ℕ) → f ≡ k → tab ∷ name_of k ≡ tab ∷ name_of f
 named k e = ap (λ (x : ℕ). tab ∷ name_of x) (sym e)
 
-pub returns-then-field-eq0 : goal.returns-then-field-eq0
+pub returns-in-0 : goal.returns-in-0
 unfolding name_of
-returns-then-field-eq0 c = put_same (named 0 c.if-field-eq0.true)
+returns-in-0 c = put_same (named 0 c.in-0.is)
     (put_then (omega (arith, c.well_formed)) c.put-p.ensures c.put_bytes.ensures)
 
-pub returns-then-field-eq1 : goal.returns-then-field-eq1
+pub returns-in-1 : goal.returns-in-1
 unfolding name_of
-returns-then-field-eq1 c = put_same (named 1 c.if-field-eq1.true)
-    (put_then (omega (arith, c.well_formed)) c.put-p.ensures c.put_bytes-then-field-eq1.ensures)
+returns-in-1 c = put_same (named 1 c.in-1.is)
+    (put_then (omega (arith, c.well_formed)) c.put-p.ensures c.put_bytes-in-1.ensures)
 
-pub returns-then-field-eq2 : goal.returns-then-field-eq2
+pub returns-in-2 : goal.returns-in-2
 unfolding name_of
-returns-then-field-eq2 c = put_same (named 2 c.if-field-eq2.true)
-    (put_then (omega (arith, c.well_formed)) c.put-p.ensures c.put_bytes-then-field-eq2.ensures)
+returns-in-2 c = put_same (named 2 c.in-2.is)
+    (put_then (omega (arith, c.well_formed)) c.put-p.ensures c.put_bytes-in-2.ensures)
 
-pub returns-then-field-eq3 : goal.returns-then-field-eq3
+pub returns-in-3 : goal.returns-in-3
 unfolding name_of
-returns-then-field-eq3 c = put_same (named 3 c.if-field-eq3.true)
-    (put_then (omega (arith, c.well_formed)) c.put-p.ensures c.put_bytes-then-field-eq3.ensures)
+returns-in-3 c = put_same (named 3 c.in-3.is)
+    (put_then (omega (arith, c.well_formed)) c.put-p.ensures c.put_bytes-in-3.ensures)
 
-pub returns : goal.returns
-returns c = put_same
+pub returns-in_default : goal.returns-in_default
+returns-in_default c = put_same
     (ap (λ (l : List ℕ). tab ∷ l)
-    (name_last _ c.if-field-eq0.false c.if-field-eq1.false c.if-field-eq2.false c.if-field-eq3.false))
-    (put_then (omega (arith, c.well_formed)) c.put-p.ensures c.put_bytes-2.ensures)
+    (name_last _ (λ e. omega arith) (λ e. omega arith) (λ e. omega arith) (λ e. omega arith)))
+    (put_then (omega (arith, c.well_formed)) c.put-p.ensures c.put_bytes-in_default.ensures)

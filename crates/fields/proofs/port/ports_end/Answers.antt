@@ -6,5 +6,5 @@ use Rattle.fields.proofs.port.ports_end.Goals as goal
 pub returns-then-whole_ports : goal.returns-then-whole_ports
 returns-then-whole_ports c = sym (whole_end _ _ (sym c.whole_ports.ensures ∙ c.if-whole_ports.true))
 
-pub returns : goal.returns
-returns c = sym (other_end _ _ (sym c.whole_ports.ensures ∙ c.if-whole_ports.false))
+pub returns-else-whole_ports : goal.returns-else-whole_ports
+returns-else-whole_ports c = sym (other_end _ _ (sym c.whole_ports.ensures ∙ c.if-whole_ports.false))

@@ -1,11 +1,7 @@
--- `fields::prefix::span_of` meets its contract: past the width one word is left, and within it a shift to the left
--- doubles. Assumes nothing.
-use native.Mathlib.Omega.{arith}
-use Rattle.fields.proofs.Prefixes.{long_span, shifted_span}
+-- `fields::prefix::span_of` meets its contract: a shift to the right divides, and none is past the width.
+use Rattle.fields.specs.Words.{address_bits}
+use Rattle.fields.proofs.Prefixes.{shifted_span}
 use Rattle.fields.proofs.prefix.span_of.Goals as goal
 
-pub returns-then-len-gt-ADDRESS_BITS : goal.returns-then-len-gt-ADDRESS_BITS
-returns-then-len-gt-ADDRESS_BITS c = long_span _ _ c.if-len-gt-ADDRESS_BITS.true
-
 pub returns : goal.returns
-returns c = shifted_span _ _ (omega arith) c.in_64_bits.ensures
+returns c = rw c.min.ensures (shifted_span address_bits _)

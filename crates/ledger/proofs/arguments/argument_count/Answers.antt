@@ -3,8 +3,8 @@ use Rattle.std.proofs.Common.{refl}
 use Rattle.ledger.specs.Ledger.{counted, enter_is}
 use Rattle.ledger.proofs.arguments.argument_count.Goals as goal
 
-pub returns-else-is_given : goal.returns-else-is_given
-returns-else-is_given c = enter_is _ (counted _) refl c.one_more.ensures
+pub returns-then-not-is_given : goal.returns-then-not-is_given
+returns-then-not-is_given c = enter_is _ (counted _) refl c.one_more.ensures
 
-pub returns-after-loop-count : goal.returns-after-loop-count
-returns-after-loop-count c = enter_is _ (counted _) refl c.one_more.ensures
+pub returns : goal.returns
+returns c = enter_is _ (counted _) refl c.one_more.ensures

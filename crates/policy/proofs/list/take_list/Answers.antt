@@ -1,14 +1,21 @@
--- `policy::list::take_list` meets its contract: the text is what stands in front of the buffer. Assumes nothing.
-use Rattle.policy.proofs.Bytes.{within_length, text_none, text_some}
-use Rattle.policy.proofs.Listing.{list_not_read, list_by}
+-- `policy::list::take_list` meets its contract: what the reader says of the text, with the words of each rule. Assumes
+-- nothing.
+use Rattle.refusals.proofs.Passing.{passed}
+use mathlib.Core.Path.{sym}
+use native.Mathlib.Omega.{arith}
+use Rattle.policy.proofs.Listing.{list_refused, list_found, list_within, list_not_read, list_by}
 use Rattle.policy.proofs.list.take_list.Goals as goal
 
-pub slice_bounds-list_of-end : goal.slice_bounds-list_of-end
-slice_bounds-list_of-end c = within_length _ _ c.within-n.ensures
+pub returns-in_err-text : goal.returns-in_err-text
+returns-in_err-text c = let w = c.in_err-text.ensures in rw (passed _ c.from_residual.ensures.1, w.0)
+    (list_by _ _ (sym w.1) (list_not_read _))
 
-pub returns-in-NotRead : goal.returns-in-NotRead
-returns-in-NotRead c = list_by _ _ (text_none c.args.buffer.now c.in-NotRead.is) (list_not_read _)
+pub overflow_mul-result : goal.overflow_mul-result
+overflow_mul-result c = omega (arith, list_within _ c.rules_read.ensures c.in_ok-read.was)
 
-pub returns-in-Bytes : goal.returns-in-Bytes
-returns-in-Bytes c = list_by _ _ (text_some c.args.buffer.now c.in-Bytes.is c.within-n.ensures)
-    c.list_of.ensures
+pub returns-in_err-read : goal.returns-in_err-read
+returns-in_err-read c = rw (passed _ c.from_residual-in_err-read.ensures.1)
+    (list_by _ _ (sym c.in_ok-text.ensures) (list_refused _ c.rules_read.ensures c.in_err-read.was))
+
+pub returns : goal.returns
+returns c = list_by _ _ (sym c.in_ok-text.ensures) (list_found _ c.rules_read.ensures c.in_ok-read.was)

@@ -1,13 +1,21 @@
--- `policy::part::take_part` meets its contract: the text is what stands in front of the buffer. Assumes nothing.
-use Rattle.policy.proofs.Bytes.{within_length, text_none, text_some}
-use Rattle.policy.proofs.PartTaking.{part_not_read, part_by}
+-- `policy::part::take_part` meets its contract: what the reader says of the text, with three words for each node. Assumes
+-- nothing.
+use Rattle.refusals.proofs.Passing.{passed}
+use mathlib.Core.Path.{sym}
+use native.Mathlib.Omega.{arith}
+use Rattle.policy.proofs.PartTaking.{part_refused, part_found, part_within, part_not_read, part_by}
 use Rattle.policy.proofs.part.take_part.Goals as goal
 
-pub slice_bounds-part_of-end : goal.slice_bounds-part_of-end
-slice_bounds-part_of-end c = within_length _ _ c.within-n.ensures
+pub returns-in_err-text : goal.returns-in_err-text
+returns-in_err-text c = let w = c.in_err-text.ensures in rw (passed _ c.from_residual.ensures.1, w.0)
+    (part_by _ _ (sym w.1) (part_not_read _ _))
 
-pub returns-in-NotRead : goal.returns-in-NotRead
-returns-in-NotRead c = part_by _ _ (text_none c.args.buffer.now c.in-NotRead.is) (part_not_read _ _)
+pub overflow_mul-result : goal.overflow_mul-result
+overflow_mul-result c = omega (arith, part_within _ c.part_read.ensures c.in_ok-read.was)
 
-pub returns-in-Bytes : goal.returns-in-Bytes
-returns-in-Bytes c = part_by _ _ (text_some c.args.buffer.now c.in-Bytes.is c.within-n.ensures) c.part_of.ensures
+pub returns-in_err-read : goal.returns-in_err-read
+returns-in_err-read c = rw (passed _ c.from_residual-in_err-read.ensures.1)
+    (part_by _ _ (sym c.in_ok-text.ensures) (part_refused _ c.part_read.ensures c.in_err-read.was))
+
+pub returns : goal.returns
+returns c = part_by _ _ (sym c.in_ok-text.ensures) (part_found _ c.part_read.ensures c.in_ok-read.was)

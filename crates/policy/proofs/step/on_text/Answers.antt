@@ -1,13 +1,20 @@
 -- `policy::step::on_text` meets its contract: the part's nodes and some more are built, and what stands then is
 -- written. Assumes nothing.
+use Rattle.refusals.proofs.Passing.{passed}
+use mathlib.Core.Path.{refl}
 use native.Mathlib.Omega.{arith}
 use Rattle.policy.proofs.StepTexts.{step_within, step_written}
 use Rattle.policy.proofs.StepSize.{step_spelling, on_judged}
 use Rattle.policy.proofs.step.on_text.Goals as goal
 
 pub step_text-requires : goal.step_text-requires
-step_text-requires c = step_within _ _ _ _ _ (omega arith) (omega arith) _ c.build_on-step.ensures
+step_text-requires c = step_within _ _ _ _ _ (omega arith) (omega arith) _ c.build_on.ensures c.in_ok-step.was
+
+pub returns-in_err-step : goal.returns-in_err-step
+returns-in_err-step c = rw (passed _ c.from_residual.ensures.1)
+    (step_written _ _ _ _ _ (omega arith) (omega arith) _ c.build_on.ensures _ c.in_err-step.was
+    (step_spelling _ (on_judged _ _ _ _ _)) (refl, refl))
 
 pub returns : goal.returns
-returns c = step_written _ _ _ _ _ (omega arith) (omega arith) _ c.build_on-step.ensures _
+returns c = step_written _ _ _ _ _ (omega arith) (omega arith) _ c.build_on.ensures _ c.in_ok-step.was
     (step_spelling _ (on_judged _ _ _ _ _)) c.step_text.ensures

@@ -1,13 +1,21 @@
--- `policy::tree::take_tree` meets its contract: the text is what stands in front of the buffer. Assumes nothing.
-use Rattle.policy.proofs.Bytes.{within_length, text_none, text_some}
-use Rattle.policy.proofs.Taking.{tree_not_read, tree_by}
+-- `policy::tree::take_tree` meets its contract: what the reader says of the text, with three words for each node. Assumes
+-- nothing.
+use Rattle.refusals.proofs.Passing.{passed}
+use mathlib.Core.Path.{sym}
+use native.Mathlib.Omega.{arith}
+use Rattle.policy.proofs.Taking.{tree_refused, tree_found, tree_within, tree_not_read, tree_by}
 use Rattle.policy.proofs.tree.take_tree.Goals as goal
 
-pub slice_bounds-tree_of-end : goal.slice_bounds-tree_of-end
-slice_bounds-tree_of-end c = within_length _ _ c.within-n.ensures
+pub returns-in_err-text : goal.returns-in_err-text
+returns-in_err-text c = let w = c.in_err-text.ensures in rw (passed _ c.from_residual.ensures.1, w.0)
+    (tree_by _ _ (sym w.1) (tree_not_read _ _))
 
-pub returns-in-NotRead : goal.returns-in-NotRead
-returns-in-NotRead c = tree_by _ _ (text_none c.args.buffer.now c.in-NotRead.is) (tree_not_read _ _)
+pub overflow_mul-result : goal.overflow_mul-result
+overflow_mul-result c = omega (arith, tree_within _ c.tree_read.ensures c.in_ok-read.was)
 
-pub returns-in-Bytes : goal.returns-in-Bytes
-returns-in-Bytes c = tree_by _ _ (text_some c.args.buffer.now c.in-Bytes.is c.within-n.ensures) c.tree_of.ensures
+pub returns-in_err-read : goal.returns-in_err-read
+returns-in_err-read c = rw (passed _ c.from_residual-in_err-read.ensures.1)
+    (tree_by _ _ (sym c.in_ok-text.ensures) (tree_refused _ c.tree_read.ensures c.in_err-read.was))
+
+pub returns : goal.returns
+returns c = tree_by _ _ (sym c.in_ok-text.ensures) (tree_found _ c.tree_read.ensures c.in_ok-read.was)

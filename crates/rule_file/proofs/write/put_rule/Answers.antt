@@ -4,7 +4,7 @@ use Prim.Native.Nat.{ℕ}
 use mathlib.Core.Path.{◌≡◌, sym, ap, ◌∙◌}
 use mathlib.Core.List.{List}
 use lib.ListN.{length, take}
-use Rattle.text.specs.Words.{rule_word, rule_marks, acl_marks}
+use Rattle.text.specs.Words.{rule_word}
 use Rattle.text.specs.Line.{print_line, ended}
 use Rattle.text.proofs.Lines.{line_past}
 use Rattle.text.proofs.Puts.{put_same}
@@ -13,18 +13,14 @@ use Rattle.rule_file.proofs.write.put_rule.Goals as goal
 
 -- the line of all numbers of the rule is that of as many as there are separators
 line :
-    (i : ℕ) (vs ms : List ℕ) (rs : List ℕ) (r : List ℕ) → vs ≡ rule_values i r → r ≡ rule_at rs i →
-    ended (print_line rule_word ms vs) ≡ ended (print_line rule_word ms (take (length ms) (rule_values i (rule_at rs i))))
-line i vs ms rs r v e =
+    (i : ℕ) (vs ns ms : List ℕ) (rs : List ℕ) (r : List ℕ) → vs ≡ rule_values i r → r ≡ rule_at rs i → ns ≡ ms →
+    ended (print_line rule_word ns vs) ≡ ended (print_line rule_word ms (take (length ms) (rule_values i (rule_at rs i))))
+line i vs ns ms rs r v e m =
+    ap (λ (x : List ℕ). ended (print_line rule_word x vs)) m ∙
     ap (λ (x : List ℕ). ended (print_line rule_word ms x)) (v ∙ ap (rule_values i) e) ∙
     ap ended (sym (line_past rule_word ms _))
 
-pub returns-in-Rules : goal.returns-in-Rules
-returns-in-Rules c =
-    rw c.in-Rules.is
-    (put_same (line c.args.i _ rule_marks c.args.rules.now _ c.values_of-values.ensures c.rule_at.ensures) c.put_line.ensures)
-
-pub returns-in-Acl : goal.returns-in-Acl
-returns-in-Acl c =
-    rw c.in-Acl.is
-    (put_same (line c.args.i _ acl_marks c.args.rules.now _ c.values_of-values.ensures c.rule_at.ensures) c.put_line-in-Acl.ensures)
+pub returns : goal.returns
+returns c =
+    put_same (line c.args.i _ _ _ c.args.rules.now _ c.values_of-values.ensures c.rule_at.ensures c.marks.ensures)
+    c.put_line.ensures

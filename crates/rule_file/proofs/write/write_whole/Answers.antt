@@ -7,7 +7,7 @@ use mathlib.Core.List.{List}
 use lib.ListN.{length, get_or}
 use Rattle.text.proofs.Below.{below_of}
 use Rattle.text.proofs.Said.{said_short, said_put}
-use Rattle.refusals.specs.declared.Verdict.TheVariants.{Fine}
+use Rattle.refusals.specs.Verdict.{Fine}
 use Rattle.rules.specs.Good.{list_verdict_to}
 use Rattle.rule_file.specs.declared.kind.Kind.{Kind}
 use Rattle.rule_file.specs.Kinds.{most_action}

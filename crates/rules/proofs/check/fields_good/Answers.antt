@@ -1,23 +1,19 @@
--- `rules::check::fields_good` meets its contract: a field that is not good ends it. The invariant: the fields before
--- this one are good. Assumes nothing.
-use native.Mathlib.Omega.{arith}
-use Rattle.facts.proofs.Bools.{held, failed}
-use Rattle.facts.proofs.Below.{passed_first, passed_step, passed_stop, passed_last}
+-- `rules::check::fields_good` meets its contract: it tests each field in turn.
+use mathlib.Core.Path.{refl, ◌∙◌}
+use borrow.Author.Rules.{rules}
+use borrow.Author.Tests.{tests}
+use Rattle.std.proofs.lemmas.Iterator.{YieldsList-from_range}
+use Rattle.std.proofs.lemmas.Iterator.Search.{all_from_yields_List}
+use Rattle.fields.specs.Words.{field_count}
+use Rattle.fields.specs.Fields.{field_good}
+use Rattle.rules.specs.Words.{form_of, field_of}
 use Rattle.rules.specs.Good.{fields_good}
+use Rattle.rules.proofs.Walks.{all_of_range}
 use Rattle.rules.proofs.check.fields_good.Goals as goal
-
-pub loop-f-init : goal.loop-f-init
-loop-f-init c = passed_first _ _
-
-pub returns-then-not-field_good : goal.returns-then-not-field_good
-unfolding fields_good
-returns-then-not-field_good c = let said = rw c.field_of.ensures at c.field_good.ensures in
-    passed_stop c.loop-f.invariant (omega arith) (failed said c.if-not-field_good.true)
-
-pub loop-f-preserved : goal.loop-f-preserved
-loop-f-preserved c = let said = rw c.field_of.ensures at c.field_good.ensures in
-    passed_step c.loop-f.invariant (omega arith) (held said c.if-not-field_good.false)
 
 pub returns : goal.returns
 unfolding fields_good
-returns c = passed_last c.loop-f.invariant c.loop-f-test.false
+returns c =
+    all_from_yields_List (λ f. field_good (field_of (form_of f) c.args.rules.now c.args.r)) _ _ _ c.all.ensures.ran
+    (YieldsList-from_range 0 field_count field_count refl refl) (λ x b q k. search (rules, tests)) ∙
+    all_of_range _ _

@@ -1,14 +1,9 @@
 -- `rules::check::rules_verdict` meets its contract: the number of words decides first, and then the rules in turn.
--- The invariant: the rules before this one are fine, so what is left decides. Assumes nothing.
-use Prim.Native.Nat.{◌≤◌, ◌-◌}
-use mathlib.Core.Path.{◌≡◌}
+-- The invariant: the rules before this one are fine, so what is left decides.
 use Rattle.refusals.proofs.Turns.{Head}
 use Rattle.rules.specs.Words.{rule_count}
 use Rattle.rules.specs.Good.{rule_verdict}
 use Rattle.rules.proofs.check.rules_verdict.Given as goal
 
 abbrev pub invariant-loop-rule : goal.invariant-loop-rule
-invariant-loop-rule l = (l.count ≡ rule_count l.rules) × (l.rule ≤ rule_count l.rules) × Head (rule_count l.rules) (rule_verdict l.most l.rules) l.rule
-
-abbrev pub decreases-loop-rule : goal.decreases-loop-rule
-decreases-loop-rule l = rule_count l.rules - l.rule
+invariant-loop-rule l = Head (rule_count l.rules) (rule_verdict l.most l.rules) l.rule

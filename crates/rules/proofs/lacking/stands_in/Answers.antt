@@ -1,21 +1,15 @@
--- `rules::lacking::stands_in` meets its contract. The invariant: no entry before this one is the number, so the rest
--- decides. Assumes nothing.
-use native.Mathlib.Omega.{arith}
-use mathlib.Core.Path.{sym, ◌∙◌}
-use Rattle.facts.proofs.Steps.{drop_step, drop_end}
-use Rattle.facts.proofs.Finding.{not_yet_first, found_here, not_yet_step, not_yet_last}
+-- `rules::lacking::stands_in` meets its contract: some entry is the number exactly where it stands among them.
+use mathlib.Core.Path.{◌∙◌}
+use lib.Dec.{eqb}
+use borrow.Author.Rules.{rules}
+use borrow.Author.Tests.{tests}
+use Rattle.std.proofs.lemmas.Iterator.{YieldsList-from_slice}
+use Rattle.std.proofs.lemmas.Iterator.Search.{any_from_yields_List}
+use Rattle.rules.proofs.Walks.{any_is}
 use Rattle.rules.proofs.lacking.stands_in.Goals as goal
 
-pub loop-i-init : goal.loop-i-init
-loop-i-init c = (omega arith, not_yet_first _ _)
-
-pub returns-then-wide-number : goal.returns-then-wide-number
-returns-then-wide-number c = let step = drop_step c.args.entries.now c.loop-i.i (omega arith) in
-    sym (found_here c.loop-i.invariant.1 step (sym c.wide.ensures ∙ c.if-wide-number.true))
-
-pub loop-i-preserved : goal.loop-i-preserved
-loop-i-preserved c = let step = drop_step c.args.entries.now c.loop-i.i (omega arith) in
-    (omega arith, not_yet_step c.loop-i.invariant.1 step (λ e. c.if-wide-number.false (c.wide.ensures ∙ e)))
-
 pub returns : goal.returns
-returns c = sym (not_yet_last c.loop-i.invariant.1 (drop_end _ _ c.loop-i-test.false))
+returns c =
+    any_from_yields_List (λ x. eqb x c.args.number) _ _ _ c.any.ensures.ran (YieldsList-from_slice c.args.entries.now cc)
+    (λ x b q k. search (rules, tests)) ∙
+    any_is _ _

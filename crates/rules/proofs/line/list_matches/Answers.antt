@@ -1,5 +1,6 @@
 -- `rules::line::list_matches` meets its contract: where the room may not hold every match they are counted first, and
 -- too little room is refused; else they are stored. Assumes nothing.
+use Rattle.std.specs.Prelude.{Ok}
 use Prim.Native.Nat.{ℕ}
 use native.Mathlib.Omega.{arith}
 use mathlib.Core.Path.{◌≡◌, refl, ap}
@@ -8,7 +9,6 @@ use lib.ListN.{length}
 use Rattle.facts.proofs.Setting.{none_before}
 use Rattle.refusals.specs.Paper.{success}
 use Rattle.refusals.proofs.Rooms.{kept_short, kept_listed}
-use Rattle.rules.specs.declared.line.Listed.TheVariants.{Found}
 use Rattle.rules.specs.LineAll.{paper}
 use Rattle.rules.specs.Scan.{scanned}
 use Rattle.rules.proofs.Searches.{scanned_at_most}
@@ -25,7 +25,7 @@ as-found c =
     none_before c.store_matches-needed.new.out out c.store_matches-needed.auto.out
 
 -- how many were found, on paper
-found : {n m : ℕ} → n ≡ m → paper (Found n) ≡ success (m ∷ [])
+found : {n m : ℕ} → n ≡ m → paper (Ok n) ≡ success (m ∷ [])
 found e = ap (λ (k : ℕ). success (k ∷ [])) e
 
 pub returns-then-scan_count-out : goal.returns-then-scan_count-out

@@ -2,14 +2,16 @@
 -- room. Assumes nothing.
 use mathlib.Core.Path.{sym, ◌∙◌}
 use Rattle.rules.proofs.Searches.{five_words, scan_refused, scan_found}
+use Rattle.refusals.proofs.Passing.{passed}
 use Rattle.rules.proofs.line.scan_all.Goals as goal
 
 pub list_matches-requires : goal.list_matches-requires
-list_matches-requires c = five_words _ (sym c.header_verdict.ensures ∙ c.in-Fine.is)
+list_matches-requires c = five_words _ (sym c.header_verdict.ensures ∙ c.in_ok-header_verdict.was)
 
-pub returns-in-Refused : goal.returns-in-Refused
-returns-in-Refused c = scan_refused _ _ _ (sym c.header_verdict.ensures ∙ c.in-Refused.is)
+pub returns-in_err-header_verdict : goal.returns-in_err-header_verdict
+returns-in_err-header_verdict c = rw (passed _ c.from_residual.ensures.1)
+    (scan_refused _ _ _ (sym c.header_verdict.ensures ∙ c.in_err-header_verdict.was))
 
-pub returns-in-Fine : goal.returns-in-Fine
-returns-in-Fine c = scan_found _ _ (sym c.header_verdict.ensures ∙ c.in-Fine.is)
+pub returns : goal.returns
+returns c = scan_found _ _ (sym c.header_verdict.ensures ∙ c.in_ok-header_verdict.was)
     c.list_matches.ensures

@@ -11,7 +11,7 @@ use Rattle.rules.proofs.line.store_matches.Goals as goal
 use Rattle.rules.proofs.line.store_matches.Goals.{then-matches, else-matches}
 
 pub loop-r-init : goal.loop-r-init
-loop-r-init c = (c.scan_count-count.ensures, omega arith, omega arith, rw sub-zero (filled_first _ _ _))
+loop-r-init c = (omega arith, rw sub-zero (filled_first _ _ _))
 
 pub matches-requires : goal.matches-requires
 matches-requires c = (omega (arith, scan_count_at_most c.args.rules.now), c.requires)
@@ -25,21 +25,17 @@ loop-r-preserved c = let rules = c.args.rules.now in
     let said = sym c.matches.ensures in
     elim c.if-matches.branch [
       | then-matches w ↦ (
-        c.loop-r.invariant.0,
-        omega arith,
         omega (arith, w.n-is),
-        rw (w.out-is, w.n-is) (filled_in c.loop-r.invariant.3 step (said ∙ w.if-matches.true) w.store.ensures),
+        rw (w.out-is, w.n-is) (filled_in c.loop-r.invariant.1 step (said ∙ w.if-matches.true) w.store.ensures),
       )
       | else-matches w ↦ (
-        c.loop-r.invariant.0,
-        omega arith,
         omega (arith, w.n-is),
-        rw (w.out-is, w.n-is) (filled_out c.loop-r.invariant.3 step (said ∙ w.if-matches.false)),
+        rw (w.out-is, w.n-is) (filled_out c.loop-r.invariant.1 step (said ∙ w.if-matches.false)),
       )
     ]
 
 pub shape_of-out : goal.shape_of-out
-shape_of-out c = filled_size c.loop-r.invariant.3
+shape_of-out c = filled_size c.loop-r.invariant.1
 
 pub returns : goal.returns
-returns c = filled_last c.loop-r.invariant.3 (up_end _ _ (omega arith))
+returns c = filled_last c.loop-r.invariant.1 (up_end _ _ (omega arith))

@@ -2,27 +2,29 @@
 -- fields do. Assumes nothing.
 use mathlib.Core.Path.{refl, sym, ◌∙◌}
 use Rattle.refusals.proofs.Order.{then_refused}
+use Rattle.refusals.proofs.Passing.{passed}
 use Rattle.refusals.proofs.Promises.{says_refused, says_after}
 use Rattle.rules.specs.RuleMisses.{miss_verdict}
 use Rattle.rules.proofs.Searches.{five_words}
 use Rattle.rules.proofs.miss.rule_misses.Goals as goal
 
 pub miss_of-requires : goal.miss_of-requires
-miss_of-requires c = five_words _ (sym c.header_verdict.ensures ∙ c.in-Fine-header_verdict.is)
+miss_of-requires c = five_words _ (sym c.header_verdict.ensures ∙ c.in_ok-header_verdict.was)
 
-pub returns-in-Refused : goal.returns-in-Refused
+pub returns-in_err-list_verdict : goal.returns-in_err-list_verdict
 unfolding miss_verdict
-returns-in-Refused c = let refused = sym c.list_verdict.ensures ∙ c.in-Refused.is in
-    says_refused (then_refused _ refused) refl
+returns-in_err-list_verdict c = let refused = sym c.list_verdict.ensures ∙ c.in_err-list_verdict.was in
+    rw (passed _ c.from_residual.ensures.1) (says_refused (then_refused _ refused) refl)
 
-pub returns-in-Refused-header_verdict : goal.returns-in-Refused-header_verdict
+pub returns-in_err-header_verdict : goal.returns-in_err-header_verdict
 unfolding miss_verdict
-returns-in-Refused-header_verdict c = let refused = sym c.header_verdict.ensures ∙ c.in-Refused-header_verdict.is in
-    says_after (sym c.list_verdict.ensures ∙ c.in-Fine.is)
-    (says_refused (then_refused _ refused) refl)
+returns-in_err-header_verdict c = let refused = sym c.header_verdict.ensures ∙ c.in_err-header_verdict.was in
+    rw (passed _ c.from_residual-in_err-header_verdict.ensures.1)
+    (says_after (sym c.list_verdict.ensures ∙ c.in_ok-list_verdict.was)
+    (says_refused (then_refused _ refused) refl))
 
-pub returns-in-Fine-header_verdict : goal.returns-in-Fine-header_verdict
+pub returns : goal.returns
 unfolding miss_verdict
-returns-in-Fine-header_verdict c = says_after (sym c.list_verdict.ensures ∙ c.in-Fine.is)
-    (says_after (sym c.header_verdict.ensures ∙ c.in-Fine-header_verdict.is)
+returns c = says_after (sym c.list_verdict.ensures ∙ c.in_ok-list_verdict.was)
+    (says_after (sym c.header_verdict.ensures ∙ c.in_ok-header_verdict.was)
     c.miss_of.ensures)

@@ -1,25 +1,19 @@
--- `rules::twins::same_words` meets its contract: a word that differs ends it. The invariant: the words before this one
--- are equal. Assumes nothing.
-use native.Mathlib.Omega.{arith}
-use mathlib.Core.Path.{sym, ◌∙◌}
-use borrow.Author.Tests.{eq-eqb, ne_eqb}
-use Rattle.facts.proofs.Below.{passed_first, passed_step, passed_stop, passed_last}
+-- `rules::twins::same_words` meets its contract: it compares each word in turn.
+use mathlib.Core.Path.{refl, ◌∙◌}
+use lib.Dec.{eqb}
+use borrow.Author.Rules.{rules}
+use borrow.Author.Tests.{tests}
+use Rattle.std.proofs.lemmas.Iterator.{YieldsList-from_range}
+use Rattle.std.proofs.lemmas.Iterator.Search.{all_from_yields_List}
+use Rattle.rules.specs.Words.{match_words, word_of}
 use Rattle.rules.specs.Twins.{same_words}
+use Rattle.rules.proofs.Walks.{all_of_range}
 use Rattle.rules.proofs.twins.same_words.Goals as goal
-
-pub loop-j-init : goal.loop-j-init
-loop-j-init c = passed_first _ _
-
-pub returns-then-word_of : goal.returns-then-word_of
-unfolding same_words
-returns-then-word_of c = passed_stop c.loop-j.invariant (omega arith)
-    (ne_eqb _ _
-    (λ e. c.if-word_of.true (c.word_of.ensures ∙ e ∙ sym c.word_of-in-loop-j.ensures)))
-
-pub loop-j-preserved : goal.loop-j-preserved
-loop-j-preserved c = let found = sym c.word_of.ensures ∙ c.if-word_of.false ∙ c.word_of-in-loop-j.ensures in
-    passed_step c.loop-j.invariant (omega arith) (eq-eqb _ _ found)
 
 pub returns : goal.returns
 unfolding same_words
-returns c = passed_last c.loop-j.invariant c.loop-j-test.false
+returns c =
+    all_from_yields_List
+    (λ j. eqb (word_of c.args.rules.now c.args.q j) (word_of c.args.rules.now c.args.r j)) _ _ _ c.all.ensures.ran
+    (YieldsList-from_range 0 match_words match_words refl refl) (λ x b q k. search (rules, tests)) ∙
+    all_of_range _ _

@@ -1,11 +1,7 @@
--- `rules::twins::slot_of` meets its contract. The invariant: the words before this one are mixed. Assumes nothing.
-use Prim.Native.Nat.{◌-◌}
-use Rattle.rules.specs.Words.{match_words, word_of}
+-- `rules::twins::slot_of` meets its contract. The invariant: the words before this one are mixed.
+use Rattle.rules.specs.Words.{word_of}
 use Rattle.rules.proofs.Slots.{Mixed}
 use Rattle.rules.proofs.twins.slot_of.Given as goal
 
 abbrev pub invariant-loop-k : goal.invariant-loop-k
 invariant-loop-k l = Mixed (word_of l.rules l.r) l.mix l.k
-
-abbrev pub decreases-loop-k : goal.decreases-loop-k
-decreases-loop-k l = match_words - l.k

@@ -10,7 +10,7 @@ use Rattle.system.proofs.serve.answer_piece.Given as goal
 
 abbrev pub invariant-loop-at : goal.invariant-loop-at
 invariant-loop-at l =
-    Enters (Head (answer_for l.asked l.rules l.nodes l.pool) l.from l.piece l.gathering l.at) l.initial.ledger l.ledger ×
+    Enters (Head (answer_for l.asked l.rules l.nodes l.pool) l.fn.from l.piece l.gathering l.at) l.initial.ledger l.ledger ×
     (length l.out ≡ length l.initial.out)
 
 abbrev pub decreases-loop-at : goal.decreases-loop-at

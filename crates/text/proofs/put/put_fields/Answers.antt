@@ -1,29 +1,32 @@
 -- `text::put::put_fields` meets its contract: at each turn the fields before it are put. Assumes nothing.
 use native.Mathlib.Omega.{arith}
+use lib.ListN.{length, length-append}
+use Rattle.std.proofs.Common.{rules}
+use Rattle.std.proofs.lemmas.Slice.Zip.{zip_turn, zip_end}
 use Rattle.text.specs.Line.{print_fields}
-use Rattle.text.proofs.Puts.{put_none, put_then, put_same, put_length, fields_more, marks_spent, values_spent}
+use Rattle.text.proofs.Puts.{put_none, put_then, put_same, fields_more, fields_spent}
 use Rattle.text.proofs.put.put_fields.Goals as goal
 
-pub loop-i-init : goal.loop-i-init
+pub loop-mark-init : goal.loop-mark-init
 unfolding print_fields
-loop-i-init c = (put_none _ _ (omega arith), omega arith, omega arith)
+loop-mark-init c = put_none _ _ (omega arith)
 
-pub shape_of-out-then-values-i : goal.shape_of-out-then-values-i
-shape_of-out-then-values-i c = put_length c.loop-i.invariant.0
-
-pub returns-then-values-i : goal.returns-then-values-i
-returns-then-values-i c = put_same (values_spent _ _ _ c.if-values-i.true) c.loop-i.invariant.0
-
-pub loop-i-preserved : goal.loop-i-preserved
-loop-i-preserved c = (
-  put_same (fields_more _ _ _ c.loop-i-test.true c.if-values-i.false)
-      (put_then (omega arith) c.loop-i.invariant.0 c.put_behind-p.ensures),
-  omega arith,
-  omega arith,
-)
-
-pub shape_of-out : goal.shape_of-out
-shape_of-out c = put_length c.loop-i.invariant.0
+pub loop-mark-preserved : goal.loop-mark-preserved
+loop-mark-preserved c =
+    let marks = c.args.marks.now in
+    let values = c.args.values.now in
+    let t = zip_turn marks values c.loop-mark.yielded c.into_iter-mark-iterator.result c.loop-mark.mark-iterator
+    c.next.new.self c.next.result (search rules) (search rules) c.loop-mark.yielded_by
+    (c.in-Some.mark, c.in-Some.value) c.in-Some.is c.next.ensures.steps in
+    simp length-append
+    (put_same (rw (t.2 0, t.3 0) (fields_more marks values (length c.loop-mark.yielded) t.0 t.1))
+    (put_then (omega arith) c.loop-mark.invariant c.put_behind-p.ensures))
 
 pub returns : goal.returns
-returns c = put_same (marks_spent _ _ _ c.loop-i-test.false) c.loop-i.invariant.0
+returns c =
+    let marks = c.args.marks.now in
+    let values = c.args.values.now in
+    let e = zip_end marks values c.loop-mark.yielded c.into_iter-mark-iterator.result c.loop-mark.mark-iterator
+    c.next.new.self c.next.result (search rules) (search rules) c.loop-mark.yielded_by c.in-None.is
+    c.next.ensures.steps in
+    put_same (fields_spent marks values _ (omega (arith, e))) c.loop-mark.invariant

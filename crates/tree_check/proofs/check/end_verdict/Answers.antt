@@ -6,8 +6,8 @@ use Rattle.tree_check.proofs.check.end_verdict.Goals as goal
 pub returns-then-next-count : goal.returns-then-next-count
 returns-then-next-count c = end_left_over _ _ c.args.lack c.if-next-count.true
 
-pub returns-in-Complete : goal.returns-in-Complete
-returns-in-Complete c = end_complete _ _ _ c.if-next-count.false c.in-Complete.is
+pub returns-in-None : goal.returns-in-None
+returns-in-None c = end_complete _ _ _ c.if-next-count.false c.in-None.is
 
-pub returns-in-Lacks : goal.returns-in-Lacks
-returns-in-Lacks c = end_lacking _ _ _ c.if-next-count.false c.in-Lacks.is
+pub returns-in-Some : goal.returns-in-Some
+returns-in-Some c = end_lacking _ _ _ c.if-next-count.false c.in-Some.is

@@ -1,11 +1,13 @@
 -- `tree_check::check::list_and_sizes` meets its contract: the list decides first. Assumes nothing.
+use Rattle.refusals.proofs.Passing.{passed}
 use mathlib.Core.Path.{sym, ◌∙◌}
 use Rattle.refusals.proofs.Order.{then_fine, then_refused}
 use Rattle.tree_check.proofs.check.list_and_sizes.Goals as goal
 
-pub returns-in-Refused : goal.returns-in-Refused
-returns-in-Refused c = sym (then_refused _ (sym c.list_verdict.ensures ∙ c.in-Refused.is))
+pub returns-in_err-list_verdict : goal.returns-in_err-list_verdict
+returns-in_err-list_verdict c = rw (passed _ c.from_residual.ensures.1)
+    (sym (then_refused _ (sym c.list_verdict.ensures ∙ c.in_err-list_verdict.was)))
 
-pub returns-in-Fine : goal.returns-in-Fine
-returns-in-Fine c = c.size_verdict.ensures ∙
-    sym (then_fine _ (sym c.list_verdict.ensures ∙ c.in-Fine.is))
+pub returns : goal.returns
+returns c = c.size_verdict.ensures ∙
+    sym (then_fine _ (sym c.list_verdict.ensures ∙ c.in_ok-list_verdict.was))

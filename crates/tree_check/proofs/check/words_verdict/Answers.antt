@@ -1,12 +1,14 @@
 -- `tree_check::check::words_verdict` meets its contract: the list and the sizes decide first, then the words.
 -- Assumes nothing.
+use Rattle.refusals.proofs.Passing.{passed}
 use mathlib.Core.Path.{sym, ◌∙◌}
 use Rattle.tree_check.proofs.Checks.{early_refused, spelt_decides}
 use Rattle.tree_check.proofs.check.words_verdict.Goals as goal
 
-pub returns-in-Refused : goal.returns-in-Refused
-returns-in-Refused c = early_refused _ _ _ (sym c.list_and_sizes.ensures ∙ c.in-Refused.is)
+pub returns-in_err-list_and_sizes : goal.returns-in_err-list_and_sizes
+returns-in_err-list_and_sizes c = rw (passed _ c.from_residual.ensures.1)
+    (early_refused _ _ _ (sym c.list_and_sizes.ensures ∙ c.in_err-list_and_sizes.was))
 
-pub returns-in-Fine : goal.returns-in-Fine
-returns-in-Fine c = c.spelt_verdict.ensures ∙
-    spelt_decides _ _ _ (sym c.list_and_sizes.ensures ∙ c.in-Fine.is)
+pub returns : goal.returns
+returns c = c.spelt_verdict.ensures ∙
+    spelt_decides _ _ _ (sym c.list_and_sizes.ensures ∙ c.in_ok-list_and_sizes.was)

@@ -1,17 +1,15 @@
 -- `tree_check::preorder::join` meets its contract: the deeper, the longer, and the first lack. Assumes nothing.
-use native.Mathlib.Omega.{arith}
-use mathlib.Core.Path.{sym, ap}
-use mathlib.Core.Path.{sym, ap}
-use Rattle.tree_check.specs.Preorder.{after_right}
-use Rattle.tree_check.proofs.Leaves.{shallow_cuts}
+use mathlib.Core.Path.{◌≡◌, refl}
+use Rattle.std.specs.Prelude.{Option, None, Some}
+use Rattle.std.specs.Option.{option_or}
+use Rattle.tree_check.specs.declared.preorder.Lack.{Lack}
+use Rattle.tree_check.specs.Preorder.{earlier}
 use Rattle.tree_check.proofs.preorder.join.Goals as goal
 
-pub overflow_add-result : goal.overflow_add-result
-overflow_add-result c = omega (arith, c.requires.0, c.larger.ensures, shallow_cuts _ c.in-Good.is c.requires.1)
+-- the earlier of two lacks is the first, or else the second
+first_or : (lack other : Option Lack) → option_or lack other ≡ earlier lack other
+first_or None other = refl
+first_or (Some lack) other = refl
 
-pub returns-in-Refused : goal.returns-in-Refused
-returns-in-Refused c = sym (ap (after_right _ _ _) c.in-Refused.is)
-
-pub returns-in-Good : goal.returns-in-Good
-returns-in-Good c = rw (c.larger.ensures, c.larger-in-Good.ensures, c.earlier.ensures)
-    (sym (ap (after_right _ _ _) c.in-Good.is))
+pub returns : goal.returns
+returns c = rw (c.max.ensures, c.max-2.ensures, c.or.ensures, first_or c.args.left.lack c.args.right.lack)

@@ -1,5 +1,6 @@
 -- `trees::search::list_entries` meets its contract: where the room may not hold every match they are counted first, and
 -- too little room is refused; else they are stored. Assumes nothing.
+use Rattle.trees.specs.Answers.{Found}
 use Prim.Native.Nat.{ℕ}
 use native.Mathlib.Omega.{arith}
 use mathlib.Core.Path.{◌≡◌, refl, ap}
@@ -10,7 +11,6 @@ use Rattle.facts.proofs.Filling.{keep_at_most}
 use Rattle.refusals.specs.Paper.{success}
 use Rattle.refusals.proofs.Rooms.{kept_short, kept_listed}
 use Rattle.rules.specs.Matching.{matches}
-use Rattle.trees.specs.declared.search.TreeListed.TheVariants.{Found}
 use Rattle.trees.specs.TreeAll.{paper}
 use Rattle.trees.proofs.search.list_entries.Goals as goal
 use Rattle.trees.proofs.search.list_entries.Goals.{After-store_entries-needed}

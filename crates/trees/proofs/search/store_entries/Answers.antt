@@ -3,35 +3,27 @@
 use native.Mathlib.Omega.{arith}
 use mathlib.Core.Path.{◌∙◌}
 use Rattle.facts.proofs.Steps.{drop_step, drop_end}
-use Rattle.facts.proofs.Filling.{filled_first, filled_size, filled_in, filled_out, filled_last}
+use Rattle.facts.proofs.Filling.{filled_in, filled_out, filled_last}
 use Rattle.trees.proofs.Entries.{compared}
 use Rattle.trees.proofs.search.store_entries.Goals as goal
 use Rattle.trees.proofs.search.store_entries.Goals.{then-rule_matches, else-rule_matches}
 
-pub loop-i-init : goal.loop-i-init
-loop-i-init c = (omega arith, omega arith, filled_first _ _ _)
-
-pub loop-i-preserved : goal.loop-i-preserved
-loop-i-preserved c = let turn = c.loop-i-test.true in
-    let step = drop_step _ c.loop-i.i turn in
-    let said =
-    compared c.requires turn c.wide.ensures
-    c.rule_matches.ensures in
+pub loop-number-preserved : goal.loop-number-preserved
+loop-number-preserved c =
+    let turn = c.loop-number-test.true in
+    let step = drop_step _ c.loop-number.number-index turn in
+    let said = compared c.requires turn c.wide.ensures c.rule_matches.ensures in
     elim c.if-rule_matches.branch [
       | then-rule_matches w ↦ (
-        omega arith,
         omega (arith, w.n-is),
-        rw (w.out-is, w.n-is) (filled_in c.loop-i.invariant.2 step (said ∙ w.if-rule_matches.true) w.store.ensures),
+        rw (w.out-is, w.n-is)
+            (filled_in c.loop-number.invariant.1 step (said ∙ w.if-rule_matches.true) w.store.ensures),
       )
       | else-rule_matches w ↦ (
-        omega arith,
         omega (arith, w.n-is),
-        rw (w.out-is, w.n-is) (filled_out c.loop-i.invariant.2 step (said ∙ w.if-rule_matches.false)),
+        rw (w.out-is, w.n-is) (filled_out c.loop-number.invariant.1 step (said ∙ w.if-rule_matches.false)),
       )
     ]
 
-pub shape_of-out : goal.shape_of-out
-shape_of-out c = filled_size c.loop-i.invariant.2
-
 pub returns : goal.returns
-returns c = filled_last c.loop-i.invariant.2 (drop_end _ c.loop-i.i c.loop-i-test.false)
+returns c = filled_last c.loop-number.invariant.1 (drop_end _ _ c.loop-number-test.false)

@@ -1,24 +1,23 @@
--- `trees::spelt::all_under` meets its contract. The invariant: the numbers so far are below n, so the rest decides.
--- Assumes nothing.
-use native.Mathlib.Omega.{arith}
-use mathlib.Core.Path.{sym}
-use Rattle.facts.proofs.Steps.{drop_step, drop_end}
-use Rattle.facts.proofs.Under.{under_first, under_step, under_over, under_last}
+-- `trees::spelt::all_under` meets its contract: it asks of every number what `all_under` does. Assumes nothing.
+use Prim.Native.Nat.{ℕ}
+use mathlib.Core.Path.{◌≡◌, refl, ◌∙◌}
+use mathlib.Core.List.{List, [], ◌∷◌}
+use lib.Dec.{ltb}
+use Rattle.std.specs.List.{list_all}
+use Rattle.std.proofs.Common.{rules, tests}
+use Rattle.std.proofs.lemmas.Iterator.{YieldsList-from_slice}
+use Rattle.std.proofs.lemmas.Iterator.Search.{all_from_yields_List}
+use Rattle.facts.specs.Lists.{all_under}
 use Rattle.trees.proofs.spelt.all_under.Goals as goal
 
-pub loop-i-init : goal.loop-i-init
-loop-i-init c = (omega arith, under_first _ _)
-
-pub returns-then-n-wide : goal.returns-then-n-wide
-returns-then-n-wide c = sym (under_over c.loop-i.invariant.1 (drop_step _ _ c.loop-i-test.true)
-    (rw c.wide.ensures at c.if-n-wide.true))
-
-pub loop-i-preserved : goal.loop-i-preserved
-loop-i-preserved c = (
-  omega arith,
-  under_step c.loop-i.invariant.1 (drop_step _ _ c.loop-i-test.true)
-      (rw c.wide.ensures at c.if-n-wide.false),
-)
+-- `all_under` is a test of every number
+under_is_all : (n : ℕ) (l : List ℕ) → list_all (λ x. ltb x n) l ≡ all_under n l
+unfolding all_under
+under_is_all n [] = refl
+under_is_all n (x ∷ xs) = rw (under_is_all n xs)
 
 pub returns : goal.returns
-returns c = sym (under_last c.loop-i.invariant.1 (drop_end _ _ c.loop-i-test.false))
+returns c =
+    all_from_yields_List (λ (x : ℕ). ltb x c.args.n) _ _ _ c.all.ensures.ran
+    (YieldsList-from_slice c.args.numbers.now (cc)) (λ x b q k. search (rules, tests)) ∙
+    under_is_all _ _

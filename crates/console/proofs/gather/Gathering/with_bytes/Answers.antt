@@ -3,14 +3,15 @@
 use Rattle.console.proofs.Joining.{joining_first, joining_step, joining_over, joining_last}
 use Rattle.console.proofs.gather.Gathering.with_bytes.Goals as goal
 
-pub loop-at-init : goal.loop-at-init
-loop-at-init c = joining_first _ _ c.requires
+pub loop-byte-init : goal.loop-byte-init
+loop-byte-init c = joining_first _ _ c.requires
 
 pub returns-then-count-ge-MOST_BYTES : goal.returns-then-count-ge-MOST_BYTES
-returns-then-count-ge-MOST_BYTES c = joining_over c.loop-at.invariant c.loop-at-test.true c.if-count-ge-MOST_BYTES.true
+returns-then-count-ge-MOST_BYTES c =
+    joining_over c.loop-byte.invariant c.loop-byte-test.true c.if-count-ge-MOST_BYTES.true
 
-pub loop-at-preserved : goal.loop-at-preserved
-loop-at-preserved c = joining_step c.loop-at.invariant c.loop-at-test.true c.if-count-ge-MOST_BYTES.false
+pub loop-byte-preserved : goal.loop-byte-preserved
+loop-byte-preserved c = joining_step c.loop-byte.invariant c.loop-byte-test.true c.if-count-ge-MOST_BYTES.false
 
 pub returns : goal.returns
-returns c = joining_last c.loop-at.invariant c.loop-at-test.false
+returns c = joining_last c.loop-byte.invariant c.loop-byte-test.false

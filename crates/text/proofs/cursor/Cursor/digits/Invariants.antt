@@ -1,11 +1,6 @@
 -- `text::cursor::Cursor::digits` meets its contract: at each turn the digits before it make the value. Assumes nothing.
-use Prim.Native.Nat.{◌-◌}
-use lib.ListN.{length}
 use Rattle.text.proofs.Scanning.{NumberLeft}
 use Rattle.text.proofs.cursor.Cursor.digits.Given as goal
 
 abbrev pub invariant-loop-at : goal.invariant-loop-at
-invariant-loop-at l = NumberLeft l.text l.initial.at l.at l.value
-
-abbrev pub decreases-loop-at : goal.decreases-loop-at
-decreases-loop-at l = length l.text - l.at
+invariant-loop-at l = NumberLeft l.text l.fn.self.at l.at l.value

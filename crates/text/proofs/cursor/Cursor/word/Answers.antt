@@ -1,26 +1,28 @@
--- `text::cursor::Cursor::word` meets its contract: at each turn the bytes before it are the same. Assumes nothing.
+-- `text::cursor::Cursor::word` meets its contract: a word is read where it stands in front. Assumes nothing.
+use native.Mathlib.Omega.{arith}
+use Prim.Native.Nat.{◌≤◌}
+use mathlib.Core.Path.{refl, sym, ap, ◌∙◌}
+use lib.ListN.{length, length-drop}
+use lib.Seq.{drop-drop}
+use Rattle.std.proofs.lemmas.List.{take_rest}
+use Rattle.text.specs.Numbers.{got}
 use Rattle.text.specs.Cursors.{word_at}
-use Rattle.text.proofs.Scanning.{word_first, word_short, word_other, word_step, word_last}
+use Rattle.text.proofs.Scanning.{word_front, word_apart}
 use Rattle.text.proofs.Answers.{word_answer, word_refusal}
 use Rattle.text.proofs.cursor.Cursor.word.Goals as goal
 
-pub loop-i-init : goal.loop-i-init
-loop-i-init c = word_first _ _ _ c.requires
-
-pub returns-then-text-at : goal.returns-then-text-at
+pub returns-then-not-starts_with : goal.returns-then-not-starts_with
 unfolding word_at
-returns-then-text-at c = word_refusal _ _ (word_short c.loop-i.invariant c.loop-i-test.true c.if-text-at.true)
-    c.wrong.ensures
-
-pub returns-then-text-at-2 : goal.returns-then-text-at-2
-unfolding word_at
-returns-then-text-at-2 c = word_refusal _ _
-    (word_other c.loop-i.invariant c.loop-i-test.true c.if-text-at.false c.if-text-at-2.true)
-    c.wrong-then-text-at-2.ensures
-
-pub loop-i-preserved : goal.loop-i-preserved
-loop-i-preserved c = word_step c.loop-i.invariant c.loop-i-test.true c.if-text-at.false c.if-text-at-2.false
+returns-then-not-starts_with c =
+    let e = sym c.starts_with.ensures.value ∙ c.if-not-starts_with.true in
+    word_refusal _ _ (word_apart _ _ (rw take_rest at e)) c.wrong.ensures
 
 pub returns : goal.returns
 unfolding word_at
-returns c = word_answer _ _ (word_last c.loop-i.invariant c.loop-i-test.false) c.loop-i.invariant.within
+returns c =
+    let e = sym c.starts_with.ensures.value ∙ c.if-not-starts_with.false in
+    let fits : length c.args.word.now ≤ _ = c.if-not-starts_with.ensures.bound refl in
+    word_answer _ _
+    (word_front _ _ (rw take_rest at e) ∙
+    ap (got tt) (drop-drop (length c.args.word.now) c.args.self.at c.args.text.now))
+    (omega (arith, simp (take_rest, length-drop) at fits))

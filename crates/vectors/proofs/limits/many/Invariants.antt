@@ -1,9 +1,0 @@
--- `vectors::limits::many` is safe and ends: the measure is the number of rules that are left.
-use Rattle.std.proofs.Common.{◌-◌, ◌≤◌}
-use Rattle.vectors.proofs.limits.many.Given as goal
-
-abbrev pub invariant-loop-i : goal.invariant-loop-i
-invariant-loop-i l = l.i ≤ 513
-
-abbrev pub decreases-loop-i : goal.decreases-loop-i
-decreases-loop-i l = 513 - l.i

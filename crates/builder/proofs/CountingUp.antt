@@ -1,23 +1,38 @@
--- An array in which each number is its place: the numbers are counted up.
-use Prim.Native.Nat.{ℕ, ◌<◌}
+-- A loop that stores the numbers from 0 on: its invariant.
+use Prim.Native.Nat.{ℕ, ◌+◌, ◌≤◌, ◌<◌}
+use native.Mathlib.Nat.{zero-add}
 use native.Mathlib.Omega.{arith}
-use mathlib.Core.Path.{◌≡◌, sym, ◌∙◌}
+use mathlib.Core.Path.{◌≡◌, refl, sym, ◌∙◌}
 use mathlib.Core.List.{List}
-use lib.Seq.{ext_get_or}
-use Rattle.std.specs.Array.{IsFromFnResult}
-use Rattle.std.specs.Fn.{Called}
-use denote.Param.Members.{Mut}
+use lib.ListN.{length, take, set, length-set}
+use lib.Seq.{take_all}
 use Rattle.facts.specs.Lists.{up_from}
-use Rattle.facts.proofs.Steps.{length_up}
-use Rattle.facts.proofs.Places.{get_or_up}
+use Rattle.facts.proofs.Counted.{up_snoc}
+use Rattle.facts.proofs.Joined.{take_stored}
 
--- what is made of n places by a function that gives the place itself is n numbers counted up
-pub counted_up :
-    {F : Type 0} {g : Mut F (ℕ × Unit {0}) ℕ} {f : F} {all : List ℕ} {n : ℕ} → IsFromFnResult g f all n →
-    ((p q : F) (x y : ℕ) → Called g p (x, tt) y q → y ≡ x) → all ≡ up_from 0 n
-counted_up {all = all} {n = n} w same =
-    ext_get_or 0 all (up_from 0 n) (w.long ∙ sym (length_up n 0))
-    (λ i l.
-    let k : i < n = omega (arith, w.long) in
-    let at = w.at i 0 k in
-    same at.0 at.1 i _ at.2 ∙ omega (arith, get_or_up n 0 i k))
+-- of n words the first i are counted up
+pub record CountedUp (n : ℕ) (words : List ℕ) (i : ℕ) : Type 0 where
+  pub size : length words ≡ n
+  pub within : i ≤ n
+  pub front : take i words ≡ up_from 0 i
+
+-- where the loop begins none is
+pub counted_first : (words : List ℕ) → CountedUp (length words) words 0
+unfolding up_from
+counted_first words = record { size = refl; within = omega arith; front = refl }
+
+module _ {n : ℕ} {words : List ℕ} {i : ℕ} (w : CountedUp n words i) where
+  -- one more is stored behind them
+  pub counted_step : {next : List ℕ} → i < n → next ≡ set words i i → CountedUp n next (i + 1)
+  counted_step l e =
+      record {
+        size = rw e (length-set words i i ∙ w.size);
+        within = omega arith;
+        front = rw (e, take_stored words i i (omega (arith, w.size)), w.front) (sym (up_snoc i 0 ∙ rw zero-add));
+      }
+
+  -- at the end all are counted up
+  pub counted_last : n ≤ i → words ≡ up_from 0 n
+  counted_last l =
+      let e : i ≡ n = omega (arith, w.within) in
+      sym (take_all i words (omega (arith, w.size))) ∙ w.front ∙ rw e

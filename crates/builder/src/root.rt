@@ -1,6 +1,7 @@
 // A list's tree from its root: it is grown into words of its own, from the nodes that stand already, and its words are
 // stored where all of them fit.
-ghost use Rattle.std.specs.Prelude.{◌≤◌, ◌≡◌};
+ghost use Rattle.std.specs.Prelude.{◌≤◌, ◌^◌, ◌≡◌, length};
+ghost use Rattle.facts.specs.Lists.{up_from};
 ghost use Rattle.refusals.specs.Verdict.{Fine};
 ghost use Rattle.rules.specs.Words.{most_rules, rule_count};
 ghost use Rattle.rules.specs.Good.{list_verdict};
@@ -18,7 +19,6 @@ use fields::bounds::root_box;
 use lent::store_all;
 use refusals::Refusal;
 use rules::words::{MOST_RULES, RULE_WORDS};
-use std::array;
 use tree_check::check::MOST_CUTS;
 use trees::words::{MOST_NODES, MOST_POOL, NODE_WORDS};
 
@@ -81,7 +81,8 @@ fn grow_root(
         (up_to room.end (tree_on (boxes_in boxes.now) standing.now kept.now) 0)
         root_spot room nodes.old pool.old result nodes.new pool.new }
 {
-    let all: [u32; MOST_RULES] = array::from_fn(|i| i as u32);
+    let mut all = [0u32; MOST_RULES];
+    count_up(&mut all);
     let count = boxes.len() / BOX_WORDS;
     grow(
         boxes,
@@ -115,5 +116,15 @@ fn room_of(nodes: usize, pool: usize, end: usize) -> Room
         nodes: nodes.min(MOST_NODES * NODE_WORDS),
         pool: pool.min(MOST_POOL),
         end,
+    }
+}
+
+// Stores the numbers from 0 on.
+fn count_up(out: &mut [u32])
+    requires { length out.old ≤ 2 ^ 32 }
+    ensures { out.new ≡ up_from 0 (length out.old) }
+{
+    for i in 0..out.len() {
+        out[i] = i as u32;
     }
 }

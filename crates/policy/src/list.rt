@@ -12,7 +12,9 @@ use rules::words::RULE_WORDS;
 pub fn take_list(file: Option<usize>, buffer: &[u8], rules: &mut [u32]) -> Result<usize, Refusal>
     ensures { ListTaken (text_in file buffer.now) rules.old result rules.new }
 {
-    let text = text_of(file, buffer)?;
+    let Some(text) = text_of(file, buffer) else {
+        return Err(Refusal::FileNotRead);
+    };
     // The reader says how many rules there are; each has its words.
     let read = rules_read(text, rules)?;
     Ok(read.rules * RULE_WORDS)

@@ -29,7 +29,9 @@ pub fn take_part(
     ensures { PartTaken (text_in file buffer.now) nodes.old pool.old result
         nodes.new pool.new }
 {
-    let text = text_of(file, buffer)?;
+    let Some(text) = text_of(file, buffer) else {
+        return Err(Refusal::FileNotRead);
+    };
     // The reader says how many nodes there are; each has its words.
     let read = part_read(text, nodes, pool)?;
     Ok(Begun {
@@ -60,7 +62,10 @@ fn judged(rules: &[u32], count: usize, nodes: &[u32], pool: &[u32]) -> Result<Be
     ensures { result ≡ begun_by (so_far_verdict rules.now count nodes.now pool.now)
         count (length nodes.now) (length pool.now) }
 {
-    part_check(rules, count, nodes, pool)?;
+    // The refusal is named, and not handed on by `?`, so that a wrong one can be tried in its place.
+    if let Err(why) = part_check(rules, count, nodes, pool) {
+        return Err(why);
+    }
     Ok(Begun {
         rules: count,
         nodes: nodes.len(),

@@ -25,7 +25,9 @@ pub fn take_tree(
     ensures { TreeTaken (text_in file buffer.now) nodes.old pool.old result
         nodes.new pool.new }
 {
-    let text = text_of(file, buffer)?;
+    let Some(text) = text_of(file, buffer) else {
+        return Err(Refusal::FileNotRead);
+    };
     // The reader says how many nodes there are; each has its words.
     let read = tree_read(text, nodes, pool)?;
     Ok(Words {

@@ -94,11 +94,11 @@ module _ (rs h : List ℕ) where
 
   -- ---- the first match
 
-  -- the first of the matches, with its action, is the first match
+  -- the number of the first of the matches, with its action, is the first match
   pub found_first :
-      {r action : ℕ} {rest : List ℕ} → scanned rs h ≡ r ∷ rest → action ≡ action_of rs r →
-      FirstIs rs h (Rule r action)
-  found_first e a = record { is = rw (e, a) }
+      {n r action : ℕ} {rest : List ℕ} → n ≡ r → scanned rs h ≡ r ∷ rest → action ≡ action_of rs r →
+      FirstIs rs h (Rule n action)
+  found_first l e a = record { is = rw (l, e, a) }
 
   -- where nothing matches there is no first match
   pub found_none : scanned rs h ≡ [] → FirstIs rs h NoRule

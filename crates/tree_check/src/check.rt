@@ -24,7 +24,10 @@ pub struct Figures {
 pub fn tree_check(rules: &[u32], nodes: &[u32], pool: &[u32]) -> Result<Figures, Refusal>
     ensures { TreeChecked rules.now nodes.now pool.now result }
 {
-    words_verdict(rules, nodes, pool)?;
+    // The refusal is named, and not handed on by `?`, so that a wrong answer can be tried in its place.
+    if let Err(why) = words_verdict(rules, nodes, pool) {
+        return Err(why);
+    }
     let part = part_of(rules, nodes, pool, 0, root_box(), MOST_CUTS, false)?;
     end_verdict(part.next, part.lack, nodes.len() / NODE_WORDS)?;
     Ok(Figures {

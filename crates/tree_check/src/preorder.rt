@@ -150,8 +150,11 @@ fn leaf_part(rules: &[u32], entries: &[u32], at: usize, bounds: Bounds) -> Resul
 fn lack_of(rules: &[u32], entries: &[u32], at: usize, bounds: Bounds) -> Option<Lack>
     ensures { result ≡ lack_of rules.now entries.now bounds at }
 {
-    let rule = lowest_lacking(rules, entries, bounds)?;
-    Some(Lack { node: at, rule })
+    // The case of none stands by itself, so that a wrong answer can be tried in its place.
+    match lowest_lacking(rules, entries, bounds) {
+        None => None,
+        Some(rule) => Some(Lack { node: at, rule }),
+    }
 }
 
 // The left and the right part of a cut, as one.

@@ -10,4 +10,5 @@
 
 pub mod node;
 pub mod read;
+pub mod words;
 pub mod write;

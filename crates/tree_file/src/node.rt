@@ -9,11 +9,12 @@ ghost use Rattle.tree_file.specs.TreeText.{cut_fits, leaf_fits};
 ghost use Rattle.tree_file.specs.NodeSteps.{Turn, EntriesRead, LineRead, NodeLineRead};
 
 use crate::read::Counts;
+use crate::words::store_node;
 use lent::{store, wide};
 use refusals::Refusal;
 use text::cursor::{Cursor, wrong};
 use text::words::{CUT, FOUR_TABS, LEAF, TAB, TWO_TABS};
-use trees::words::{LEAF_MARK, store_node};
+use trees::words::LEAF_MARK;
 
 // The line of node `i`, the leaves below it having `filled` entries. Its words and entries are stored as far as there
 // is room. The answer is the number of entries up to here, and the cursor behind the line.

@@ -6,7 +6,7 @@ ghost use Rattle.trees.specs.Node.{node_at};
 ghost use Rattle.trees.specs.Steps.{WordRead};
 
 use fields::header::FIELDS;
-use lent::{store_all, wide};
+use lent::{store, wide};
 
 // The words of a node.
 pub const NODE_WORDS: usize = 3;
@@ -70,7 +70,11 @@ pub fn node_at(nodes: &[u32], i: usize) -> Option<Node>
 pub fn store_node(nodes: &mut [u32], i: usize, words: [u32; NODE_WORDS])
     ensures { nodes.new ≡ sets nodes.old (i * node_words) words }
 {
-    store_all(nodes, i.saturating_mul(NODE_WORDS), &words);
+    // Not by `store_all`: the compiler makes a `memcpy` of it here, and the readers of trees do without.
+    let at = i.saturating_mul(NODE_WORDS);
+    for j in 0..NODE_WORDS {
+        store(nodes, at.saturating_add(j), words[j]);
+    }
 }
 
 // The value of cut `i`.

@@ -97,14 +97,11 @@ fn is_plain(one: &Crate) -> Result<(), String> {
     }
 }
 
-/// Whether a line names std, but for its numbers and its arrays.
+/// Whether a line names std, but for its numbers.
 fn names_std(line: &str) -> bool {
     let behind = |kit: &'static str| words(line, kit).map(move |at| &line[at + kit.len()..]);
-    let of_values = |behind: &str| {
-        let is = |module| behind.strip_prefix(module).is_some_and(|rest: &str| !rest.starts_with(of_word));
-        ["::num", "::array"].into_iter().any(is)
-    };
-    ["std", "core"].into_iter().flat_map(behind).any(|behind| !of_values(behind))
+    let number = |behind: &str| behind.strip_prefix("::num").is_some_and(|rest| !rest.starts_with(of_word));
+    ["std", "core"].into_iter().flat_map(behind).any(|behind| !number(behind))
 }
 
 /// The ledger imports of std what is listed above, and alone has what `main` is given.

@@ -275,7 +275,7 @@ fn only_the_ledger_may_ask_the_system() {
     refused("low", "more", "fn no() {\n    unsafe { *at }\n}\n", "crates/low/src has unsafe code");
     refused("low", "more", "fn no() {\n    println!(rt; \"no\");\n}\n", "crates/low/src has the macro `println!(rt;");
     refused("low", "more", "macro_rules! no {\n}\n", "crates/low/src has the macro `macro_rules!");
-    for module in ["fs", "io", "env", "rt", "os", "process", "net", "thread", "time", "ptr", "number"] {
+    for module in ["fs", "io", "env", "rt", "os", "process", "net", "thread", "time", "ptr", "array", "number"] {
         refused("low", "more", &format!("use std::{module}::what;\n"), "and only ledger may ask the system by std");
         refused(
             "program",

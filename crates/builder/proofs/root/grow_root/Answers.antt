@@ -1,10 +1,7 @@
 -- `builder::root::grow_root` meets its contract: all numbers may meet the root's box. Assumes nothing.
-use borrow.Author.Tests.{tests}
-use Rattle.std.proofs.Common.{rules}
-use Rattle.builder.proofs.CountingUp.{counted_up}
 use Rattle.builder.proofs.Rooting.{root_growable}
 use Rattle.builder.proofs.root.grow_root.Goals as goal
 
 pub grow-requires : goal.grow-requires
 grow-requires c = root_growable _ _ _ c.root_box.ensures c.root_spot.ensures
-    c.requires (counted_up c.from_fn-all.ensures.items (λ p q x y k. search (rules, tests)))
+    c.requires c.count_up.ensures

@@ -6,16 +6,15 @@ use native.Mathlib.Omega.{arith}
 use Rattle.policy.proofs.Taking.{tree_refused, tree_found, tree_within, tree_not_read, tree_by}
 use Rattle.policy.proofs.tree.take_tree.Goals as goal
 
-pub returns-in_err-text : goal.returns-in_err-text
-returns-in_err-text c = let w = c.in_err-text.ensures in rw (passed _ c.from_residual.ensures.1, w.0)
-    (tree_by _ _ (sym w.1) (tree_not_read _ _))
+pub returns-in_default : goal.returns-in_default
+returns-in_default c = tree_by _ _ (sym c.in_default.ensures) (tree_not_read _ _)
 
 pub overflow_mul-result : goal.overflow_mul-result
 overflow_mul-result c = omega (arith, tree_within _ c.tree_read.ensures c.in_ok-read.was)
 
 pub returns-in_err-read : goal.returns-in_err-read
-returns-in_err-read c = rw (passed _ c.from_residual-in_err-read.ensures.1)
-    (tree_by _ _ (sym c.in_ok-text.ensures) (tree_refused _ c.tree_read.ensures c.in_err-read.was))
+returns-in_err-read c = rw (passed _ c.from_residual.ensures.1)
+    (tree_by _ _ (sym c.in-Some.ensures) (tree_refused _ c.tree_read.ensures c.in_err-read.was))
 
 pub returns : goal.returns
-returns c = tree_by _ _ (sym c.in_ok-text.ensures) (tree_found _ c.tree_read.ensures c.in_ok-read.was)
+returns c = tree_by _ _ (sym c.in-Some.ensures) (tree_found _ c.tree_read.ensures c.in_ok-read.was)

@@ -23,7 +23,9 @@ pub returns-then-matches : goal.returns-then-matches
 unfolding scanned
 returns-then-matches c = let step = up_step (scan_count c.args.rules.now) c.loop-r.r (omega arith) in
     let found = sym c.matches.ensures ∙ c.if-matches.true in
-    found_first _ _ (first_found c.loop-r.invariant step found) c.action_of.ensures
+    let e = c.scan_count-count.ensures in
+    found_first _ _ (omega (arith, scan_count_fits c.args.rules.now)) (first_found c.loop-r.invariant step found)
+    c.action_of.ensures
 
 pub loop-r-preserved : goal.loop-r-preserved
 loop-r-preserved c = let step = up_step (scan_count c.args.rules.now) c.loop-r.r (omega arith) in

@@ -25,24 +25,23 @@ looked c =
     ap (λ (b : List (List ℕ)). part_of most_cuts a.rules.now a.nodes.now a.pool.now b 0) c.root_box.ensures
 
 pub part_of-requires : goal.part_of-requires
-part_of-requires c = (((words_fine_iff _ _ _).0 (sym c.words_verdict.ensures ∙ c.in_ok-words_verdict.was)).2, omega arith)
+part_of-requires c = (((words_fine_iff _ _ _).0 (sym c.words_verdict.ensures ∙ c.in_default.is)).2, omega arith)
 
-pub returns-in_err-words_verdict : goal.returns-in_err-words_verdict
-returns-in_err-words_verdict c = rw (passed _ c.from_residual.ensures.1)
-    (words_refused _ _ _ (sym c.words_verdict.ensures ∙ c.in_err-words_verdict.was))
+pub returns-in-Err : goal.returns-in-Err
+returns-in-Err c = words_refused _ _ _ (sym c.words_verdict.ensures ∙ c.in-Err.is)
 
 pub returns-in_err-part : goal.returns-in_err-part
-returns-in_err-part c = rw (passed _ c.from_residual-in_err-part.ensures.1)
-    (part_decides _ _ _ (sym c.words_verdict.ensures ∙ c.in_ok-words_verdict.was)
+returns-in_err-part c = rw (passed _ c.from_residual.ensures.1)
+    (part_decides _ _ _ (sym c.words_verdict.ensures ∙ c.in_default.is)
     (looked (goal.at.returns-in_err-part c).After-part_of) (judged_refused _ _ c.in_err-part.was))
 
 pub returns-in_err-end_verdict : goal.returns-in_err-end_verdict
 returns-in_err-end_verdict c = rw (passed _ c.from_residual-in_err-end_verdict.ensures.1)
-    (part_decides _ _ _ (sym c.words_verdict.ensures ∙ c.in_ok-words_verdict.was)
+    (part_decides _ _ _ (sym c.words_verdict.ensures ∙ c.in_default.is)
     (looked (goal.at.returns-in_err-end_verdict c).After-part_of)
     (judged_end _ _ c.in_ok-part.was (sym c.end_verdict.ensures ∙ c.in_err-end_verdict.was)))
 
 pub returns : goal.returns
-returns c = part_decides _ _ _ (sym c.words_verdict.ensures ∙ c.in_ok-words_verdict.was)
+returns c = part_decides _ _ _ (sym c.words_verdict.ensures ∙ c.in_default.is)
     (looked (goal.at.returns c).After-part_of)
     (judged_accepted _ _ c.in_ok-part.was (sym c.end_verdict.ensures ∙ c.in_ok-end_verdict.was))
